@@ -1,0 +1,6 @@
+pub mod Bytes
+pub mod Files
+pub mod Lending
+pub mod MemSink
+pub mod MemStore
+pub mod Plans

@@ -1,0 +1,99 @@
+ghost use Rattle.std.specs.Prelude.{◌≡◌, ℕ, List as Seq, length, IfOk, IfErr, OnOk};
+ghost use Rattle.cov_base.specs.Files.{NeverFall};
+ghost use Rattle.cov_station.specs.Answers.{HasFile, IsProgram, RunPrints};
+ghost use Rattle.cov_station.specs.Net.{net};
+ghost use Rattle.cov_station.specs.NetworkText.{names_of};
+ghost use Rattle.cov_station.specs.Nodes.{Node as SourceNode};
+ghost use Rattle.cov_station.specs.Order.{IsOrder};
+ghost use Rattle.cov_station.specs.Refusals.{IsDue, SourceIsDue, SuiteIsDue};
+ghost use Rattle.cov_station.specs.Suites.{IsPlainSuite};
+
+use crate::files::{Contents, read_file};
+use crate::program::{Program, read_program};
+use crate::refusal::Refusal;
+use crate::runs::run_text;
+use crate::suite::read_suite;
+use cov_base::{List, Store, StoreFault};
+use lus_syntax::PlainFault;
+use op_network::{Network, Test};
+use std::alloc::Global;
+
+/// Reads SOURCE, and takes a plain program from it.
+fn read_source<S: Store>(alloc: Global, store: &mut S, source: &str) -> Result<Program, Refusal>
+    ensures program { IfOk result (λ p. (bytes : Seq ℕ) × HasFile (S.files store.old) source.now bytes × ((node : SourceNode) × IsProgram bytes node × (p.network ≡ net node))) }
+    ensures order { IfOk result (λ p. IsOrder p.network.edges p.sequence) }
+    ensures due { IfErr result (λ why. SourceIsDue source.now (S.files store.old) (S.counts store.old) (S.counts store.new) why) }
+    ensures ok_counts { OnOk result (S.counts store.new ≡ S.counts store.old) }
+    ensures never_fall { NeverFall (S.counts store.old) (S.counts store.new) }
+    ensures files { S.files store.new ≡ S.files store.old }
+{
+    match read_file(alloc, store, source) {
+        Ok(Contents::Whole(bytes)) => match read_program(alloc, bytes.as_slice()) {
+            Ok(program) => Ok(program),
+            Err(PlainFault::NotPlain) => Err(Refusal::SourceNotPlain),
+            Err(PlainFault::Memory) => Err(Refusal::Memory),
+        },
+        Ok(Contents::TooLong) => Err(Refusal::SourceNotPlain),
+        Err(StoreFault::Missing) => Err(Refusal::NoSource),
+        Err(StoreFault::Failed) => Err(Refusal::SourceUnread),
+        Err(StoreFault::Memory) => Err(Refusal::Memory),
+    }
+}
+
+/// Reads SUITE, and takes the tests of a plain suite from it.
+fn read_tests<S: Store>(
+    alloc: Global,
+    store: &mut S,
+    suite: &str,
+    network: &Network,
+) -> Result<List<Test>, Refusal>
+    ensures tests { IfOk result (λ tests. (bytes : Seq ℕ) × HasFile (S.files store.old) suite.now bytes × IsPlainSuite (names_of network.now.edges network.now.inputs) bytes tests) }
+    ensures due { IfErr result (λ why. SuiteIsDue suite.now (names_of network.now.edges network.now.inputs) (S.files store.old) (S.counts store.old) (S.counts store.new) why) }
+    ensures ok_counts { OnOk result (S.counts store.new ≡ S.counts store.old) }
+    ensures never_fall { NeverFall (S.counts store.old) (S.counts store.new) }
+    ensures files { S.files store.new ≡ S.files store.old }
+{
+    match read_file(alloc, store, suite) {
+        Ok(Contents::Whole(bytes)) => match read_suite(alloc, bytes.as_slice(), network) {
+            Ok(tests) => Ok(tests),
+            Err(PlainFault::NotPlain) => Err(Refusal::SuiteNotPlain),
+            Err(PlainFault::Memory) => Err(Refusal::Memory),
+        },
+        Ok(Contents::TooLong) => Err(Refusal::SuiteNotPlain),
+        Err(StoreFault::Missing) => Err(Refusal::NoSuite),
+        Err(StoreFault::Failed) => Err(Refusal::SuiteUnread),
+        Err(StoreFault::Memory) => Err(Refusal::Memory),
+    }
+}
+
+/// The text that `run` prints of a plain program in SOURCE and a plain suite in SUITE.
+pub(crate) fn run<S: Store>(
+    alloc: Global,
+    store: &mut S,
+    source: &str,
+    suite: &str,
+) -> Result<List<u8>, Refusal>
+    ensures text { IfOk result (λ text. RunPrints source.now suite.now (S.files store.old) text) }
+    ensures due { IfErr result (λ why. IsDue source.now suite.now (S.files store.old) (S.counts store.old) (S.counts store.new) why) }
+    ensures ok_counts { OnOk result (S.counts store.new ≡ S.counts store.old) }
+    ensures never_fall { NeverFall (S.counts store.old) (S.counts store.new) }
+    ensures files { S.files store.new ≡ S.files store.old }
+{
+    let program = match read_source(alloc, store, source) {
+        Ok(program) => program,
+        Err(why) => return Err(why),
+    };
+    let tests = match read_tests(alloc, store, suite, &program.network) {
+        Ok(tests) => tests,
+        Err(why) => return Err(why),
+    };
+    match run_text(
+        alloc,
+        &program.network,
+        program.sequence.as_slice(),
+        tests.as_slice(),
+    ) {
+        Ok(text) => Ok(text),
+        Err(_) => Err(Refusal::Memory),
+    }
+}

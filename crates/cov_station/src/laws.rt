@@ -1,0 +1,15 @@
+ghost use Rattle.std.specs.Prelude.{◌≡◌, ℕ, List as Seq, length};
+ghost use Rattle.op_network.specs.declared.test.Test.{Test};
+ghost use Rattle.cov_station.specs.Answers.{IsProgram};
+ghost use Rattle.cov_station.specs.Nodes.{Node};
+ghost use Rattle.cov_station.specs.RunText.{RunText};
+ghost use Rattle.cov_station.specs.Streams.{Stream, HaveLength, NodeRun};
+
+/// A plain program has exactly one run over given inputs, so its text is determined. Does nothing: its
+/// clauses are the law.
+pub fn one_run()
+    ensures exists { (source : Seq ℕ) (node : Node) (n : ℕ) (ins : Seq Stream) → IsProgram source node → length ins ≡ length node.inputs → HaveLength n ins → (outs : Seq Stream) × NodeRun node n ins outs }
+    ensures outputs { (source : Seq ℕ) (node : Node) (n : ℕ) (ins outs others : Seq Stream) → IsProgram source node → NodeRun node n ins outs → NodeRun node n ins others → outs ≡ others }
+    ensures locals { (source : Seq ℕ) (node : Node) (n : ℕ) (ins outs others : Seq Stream) → IsProgram source node → (run : NodeRun node n ins outs) (twin : NodeRun node n ins others) → run.locals ≡ twin.locals }
+    ensures text { (source : Seq ℕ) (node : Node) (tests : Seq Test) (text other : Seq ℕ) → IsProgram source node → RunText node tests text → RunText node tests other → text ≡ other }
+{}

@@ -1,0 +1,5 @@
+pub mod Has
+pub mod Paths
+pub mod Duties
+pub mod Near
+pub mod Levels

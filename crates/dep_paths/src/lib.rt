@@ -1,0 +1,20 @@
+//! The paths of a network, and what a plan asks of a suite.
+#![tactic(auto)]
+
+mod law;
+mod longer;
+mod near;
+mod path;
+mod paths;
+mod planned;
+mod planning;
+mod rows;
+#[cfg(test)]
+mod tests;
+mod walk;
+
+pub use law::{list_is_longer, one_list};
+pub use path::{Condition, Criterion, Obligation, Path, Pin, PlanFault, Score, Step};
+pub use paths::list;
+pub use planned::Plan;
+pub use planning::plan;

@@ -1,0 +1,68 @@
+ghost use Rattle.std.specs.Prelude.{◌≡◌};
+
+use crate::path::{Condition, Obligation, Path};
+use cov_base::List;
+use std::marker::Model;
+
+/// A plan: the paths of a network up to a length, and the obligations that a suite has to meet.
+#[derive(Debug, Drop)]
+pub struct Plan {
+    length: u32,
+    paths: List<Path>,
+    conditions: List<Condition>,
+    duties: List<Obligation>,
+}
+
+impl Model for Plan {
+    ghost use Rattle.dep_paths.specs.Duties.{Planned};
+
+    ghost Value = { Planned };
+
+    ghost view = { λ plan. record { length = plan.length; paths = plan.paths; conditions = plan.conditions; duties = plan.duties } };
+}
+
+impl Plan {
+    pub(crate) fn new(
+        length: u32,
+        paths: List<Path>,
+        conditions: List<Condition>,
+        duties: List<Obligation>,
+    ) -> Plan
+        ensures { result ≡ record { length = length; paths = paths; conditions = conditions; duties = duties } }
+    {
+        Plan {
+            length,
+            paths,
+            conditions,
+            duties,
+        }
+    }
+
+    /// The most edges that a path may have.
+    pub fn length(&self) -> u32
+        ensures { result ≡ self.now.length }
+    {
+        self.length
+    }
+
+    /// The complete paths of at most that many edges, in order.
+    pub fn paths(&self) -> &[Path]
+        ensures { result.now ≡ self.now.paths }
+    {
+        self.paths.as_slice()
+    }
+
+    /// The conditions. There are none as yet.
+    pub fn conditions(&self) -> &[Condition]
+        ensures { result.now ≡ self.now.conditions }
+    {
+        self.conditions.as_slice()
+    }
+
+    /// The obligations: basic coverage, one for each path, in order.
+    pub fn duties(&self) -> &[Obligation]
+        ensures { result.now ≡ self.now.duties }
+    {
+        self.duties.as_slice()
+    }
+}

@@ -1,0 +1,12 @@
+pub mod Both
+pub mod Crowds
+pub mod Cutting
+pub mod Fails
+pub mod Lexemes
+pub mod Nodes
+pub mod OneCutting
+pub mod OneTree
+pub mod Parts
+pub mod PlainTexts
+pub mod Ranks
+pub mod Steps

@@ -1,0 +1,43 @@
+-- Plain sources: their tokens and their tree are determined.
+use Rattle.std.proofs.Common.{◌≡◌, ℕ, ◌+◌, ◌≤◌, List, length, sym, subst, arith}
+use Rattle.std.specs.Prelude.{Result, Ok, Err, IfOk}
+use Rattle.lus_syntax.specs.declared.ast.Ast.{Ast}
+use Rattle.lus_syntax.specs.declared.fault.PlainFault.{PlainFault}
+use Rattle.lus_syntax.specs.declared.lexer.LexFault.{LexFault}
+use Rattle.lus_syntax.specs.declared.lexer.LexFault.TheVariants.{Memory}
+use Rattle.lus_syntax.specs.declared.token.Token.{Token}
+use Rattle.lus_syntax.specs.Crowding.{IsCrowd}
+use Rattle.lus_syntax.specs.Cuts.{Cuts, nothing, skip, token, Fails}
+use Rattle.lus_syntax.specs.Grammar.{Derives}
+use Rattle.lus_syntax.specs.Plain.{IsPlain}
+use Rattle.lus_syntax.proofs.OneCutting.{one_cutting, ends_all, cut_or_fault}
+use Rattle.lus_syntax.proofs.Nodes.{only_one}
+
+-- each token has a byte or more
+pub token_count : {text : List ℕ} {at to : ℕ} {ts : List Token} → Cuts text at ts to → at + length ts ≤ to
+token_count nothing = omega arith
+token_count (skip n s c) = let h = token_count c in omega arith
+token_count (token n kind d l w c) = let h = token_count c in let some = l.some in omega arith
+
+same_tokens : {text : List ℕ} {ts us : List Token} → Cuts text 0 ts (length text) → Cuts text 0 us (length text) → ts ≡ us
+same_tokens {text} c d = (one_cutting c d (ends_all text) (ends_all text)).0
+
+pub one_source : (text : List ℕ) (a b : Ast) → IsPlain text a → IsPlain text b → a ≡ b
+one_source text a b p q = only_one text p.tokens a b p.derived (subst (λ ts. Derives text ts b) (sym (same_tokens p.cut q.cut)) q.derived)
+
+-- a text that a fault stops isn't plain
+pub fault_refuses : (text : List ℕ) (fault : LexFault) → Fails text fault → (fault ≡ Memory → ⊥) → (tree : Ast) → IsPlain text tree → ⊥
+fault_refuses text fault fails other tree p = other (cut_or_fault text fault p.tokens fails p.cut)
+
+-- nor is a crowded one
+pub crowd_refuses : (text : List ℕ) (ts : List Token) (place : ℕ) → Cuts text 0 ts (length text) → IsCrowd ts place → (tree : Ast) → IsPlain text tree → ⊥
+crowd_refuses text ts place cut crowd tree p = p.loose place (subst (λ us. IsCrowd us place) (same_tokens cut p.cut) crowd)
+
+-- nor one whose tokens derive no tree
+pub no_tree_refuses : (text : List ℕ) (ts : List Token) → Cuts text 0 ts (length text) → ((tree : Ast) → Derives text ts tree → ⊥) → (tree : Ast) → IsPlain text tree → ⊥
+no_tree_refuses text ts cut none tree p = none tree (subst (λ us. Derives text us tree) (same_tokens p.cut cut) p.derived)
+
+-- the tree that the tokens derive is the only one of the text
+pub only_tree : (text : List ℕ) (ts : List Token) (result : Result Ast PlainFault) → Cuts text 0 ts (length text) → IfOk result (λ tree. Derives text ts tree) → IfOk result (λ tree. (other : Ast) → IsPlain text other → other ≡ tree)
+only_tree text ts (Ok tree) cut derived = λ other p. only_one text ts other tree (subst (λ us. Derives text us other) (same_tokens p.cut cut) p.derived) derived
+only_tree text ts (Err fault) cut derived = tt

@@ -1,0 +1,73 @@
+ghost use Rattle.std.specs.Prelude.{◌≡◌, ◌≤◌, ℕ, List as Seq, length, IfOk, IfErr};
+ghost use Rattle.lus_syntax.specs.Cuts.{Cuts, Fails, IsCutOnce, IsCutOrFault, IsOneFault};
+ghost use Rattle.lus_syntax.specs.Pieces.{fault_at};
+
+use crate::pieces::{Cause, Piece, next_piece};
+use crate::token::Token;
+use cov_base::List;
+use std::alloc::Global;
+
+/// Why a text can't be cut into tokens, blanks and comments. A place is a byte of the text, counted
+/// from 0: up to there the text is cut, and nothing that begins there goes on.
+#[derive(Clone, Copy, Debug, PartialEq, Eq)]
+pub enum LexFault {
+    /// No token, blank or comment begins with this byte.
+    BadByte(u32),
+    /// A comment `(*` that no `*)` ends; the place is its first byte.
+    OpenComment(u32),
+    /// A number of 2^128 or more; the place is its first byte.
+    WideLiteral(u32),
+    /// Want of memory.
+    Memory,
+}
+
+/// The tokens of a text of at most 1,048,576 bytes, each the longest that fits, without the blanks
+/// and comments between them. Takes time and memory in proportion to the text.
+pub fn lex(alloc: Global, text: &[u8]) -> Result<List<Token>, LexFault>
+    requires { length text.now ≤ 1_048_576 }
+    ensures tokens { IfOk result (λ tokens. Cuts text.now 0 tokens (length text.now)) }
+    ensures fault { IfErr result (λ fault. Fails text.now fault) }
+{
+    let mut tokens = List::new(alloc);
+    let mut at = 0;
+    while at < text.len() {
+        match next_piece(text.split_at(at).1) {
+            Ok(Piece::Gap(len)) => at += len,
+            Ok(Piece::Lexeme(len, kind)) => {
+                let token = Token {
+                    kind,
+                    start: at as u32,
+                    end: (at + len) as u32,
+                };
+                match tokens.push(token) {
+                    Ok(()) => at += len,
+                    Err(_) => return Err(LexFault::Memory),
+                }
+            }
+            Err(cause) => return Err(fault_at(cause, at as u32)),
+        }
+    }
+    Ok(tokens)
+}
+
+/// The fault of this cause at this place.
+fn fault_at(cause: Cause, at: u32) -> LexFault
+    ensures { result ≡ fault_at cause at }
+{
+    match cause {
+        Cause::BadByte => LexFault::BadByte(at),
+        Cause::OpenComment => LexFault::OpenComment(at),
+        Cause::WideLiteral => LexFault::WideLiteral(at),
+    }
+}
+
+/// The laws of cutting, for proofs of callers; it does nothing. A text is cut in one way at most, a
+/// text that can be cut fails of memory alone, and a text has one fault at most beside that.
+pub fn one_cutting()
+    ensures once { (text : Seq ℕ) → IsCutOnce text }
+    ensures cut_or_fault { (text : Seq ℕ) → IsCutOrFault text }
+    ensures one_fault { (text : Seq ℕ) → IsOneFault text }
+{}
+
+#[cfg(test)]
+mod tests;

@@ -1,0 +1,109 @@
+-- Valid networks.
+use Rattle.std.specs.Prelude.{◌≡◌, ◌≢◌, ℕ, ◌<◌, ◌≤◌, ◌-◌, ◌*◌, ◌^◌, pos, ◌+ℤ◌, ◌-ℤ◌, ◌≤ℤ◌, ◌<ℤ◌, ℤ, List, [], length, All, AllPairs, Option, Some, None, slice_get}
+use Rattle.std.specs.Option.{option_map}
+use Rattle.op_network.specs.declared.edge.EdgeId.{EdgeId}
+use Rattle.op_network.specs.declared.edge.Edge.{Edge}
+use Rattle.op_network.specs.declared.edge.Choice.{Choice}
+use Rattle.op_network.specs.declared.edge.Parts.{Parts}
+use Rattle.op_network.specs.declared.edge.Op.{Op}
+use Rattle.op_network.specs.declared.edge.Op.TheVariants.{Input, Const, Id, Not, And, Arrow, Pre}
+use Rattle.op_network.specs.declared.test.Test.{Test}
+use Rattle.op_network.specs.declared.value.Ty.{Ty}
+use Rattle.op_network.specs.declared.value.Ty.TheVariants as type
+use Rattle.op_network.specs.declared.value.Value.{Value}
+use Rattle.op_network.specs.declared.value.Value.TheVariants as value
+use Rattle.op_network.specs.Run.{rows}
+
+-- the operator of the edge at a place
+abbrev pub op_of : List Edge → ℕ → Option Op
+op_of edges e = option_map (λ (edge : Edge). edge.op) (slice_get edges e)
+
+-- the type of an edge
+abbrev pub type_of : List Edge → EdgeId → Option Ty
+type_of edges e = option_map (λ (edge : Edge). edge.ty) (slice_get edges e.0)
+
+-- a choice is one of the network's
+abbrev pub IsTypeOf : Parts → Ty → Type 0
+IsTypeOf parts type.Truth = Unit {0}
+IsTypeOf parts type.Word = Unit {0}
+IsTypeOf parts (type.Choice c) = c < length parts.choices
+
+-- a word in the range of a width
+abbrev pub IsWord : ℕ → ℤ → Type 0
+IsWord width w = (pos 0 ≤ℤ (w +ℤ pos (2 ^ (width - 1)))) × (w <ℤ pos (2 ^ (width - 1)))
+
+-- a place of an enumerator of a choice
+abbrev pub IsEnumerator : List Choice → ℕ → ℕ → Type 0
+IsEnumerator choices c k = (choice : Choice) × (slice_get choices c ≡ Some choice) × (k < length choice.names)
+
+-- a value is of a type, and a word in the range of the width
+abbrev pub HasType : Parts → Value → Ty → Type 0
+HasType parts (value.Truth b) type.Truth = Unit {0}
+HasType parts (value.Word w) type.Word = IsWord parts.width w
+HasType parts (value.Choice k) (type.Choice c) = IsEnumerator parts.choices c k
+HasType parts _ _ = ⊥
+
+-- an operator and its operands have the types that it asks for
+abbrev pub IsWellTyped : Parts → Op → Ty → Type 0
+IsWellTyped parts (Input i) ty = IsTypeOf parts ty
+IsWellTyped parts (Const v) ty = HasType parts v ty
+IsWellTyped parts (Id a) ty = type_of parts.edges a ≡ Some ty
+IsWellTyped parts (Not a) ty = (ty ≡ type.Truth) × (type_of parts.edges a ≡ Some type.Truth)
+IsWellTyped parts (And a b) ty = (ty ≡ type.Truth) × (type_of parts.edges a ≡ Some type.Truth) × (type_of parts.edges b ≡ Some type.Truth)
+IsWellTyped parts (Arrow a b) ty = (type_of parts.edges a ≡ Some ty) × (type_of parts.edges b ≡ Some ty)
+IsWellTyped parts (Pre a) ty = type_of parts.edges a ≡ Some ty
+
+-- one or more bytes, each printable and no blank
+pub record IsName (name : List ℕ) : Type 0 where
+  pub some : name ≢ []
+  pub printable : All (λ b. (0x21 ≤ b) × (b ≤ 0x7E)) name
+
+-- the i-th input from 0 is an edge `Input i`
+abbrev pub AreNumbered : List Edge → List EdgeId → Type 0
+AreNumbered edges inputs = (i : ℕ) (e : EdgeId) → slice_get inputs i ≡ Some e → op_of edges e.0 ≡ Some (Input i)
+
+-- each edge `Input i` is the i-th input
+abbrev pub AreAllInputs : List Edge → List EdgeId → Type 0
+AreAllInputs edges inputs = (e : ℕ) (edge : Edge) → slice_get edges e ≡ Some edge → (i : ℕ) → edge.op ≡ Input i → slice_get inputs i ≡ Some (record { 0 = e })
+
+-- the inputs are exactly the Input edges in order, the i-th from 0 being `Input i`
+pub record HasInputs (edges : List Edge) (inputs : List EdgeId) : Type 0 where
+  pub numbered : AreNumbered edges inputs
+  pub all : AreAllInputs edges inputs
+  pub order : AllPairs (λ (a b : EdgeId). a.0 < b.0) inputs
+
+-- an enumerated type has 1 to 256 different names
+pub record IsChoice (choice : Choice) : Type 0 where
+  pub some : 1 ≤ length choice.names
+  pub few : length choice.names ≤ 256
+  pub names : All IsName choice.names
+  pub apart : AllPairs (λ a b. a ≢ b) choice.names
+
+pub record IsValid (parts : Parts) : Type 0 where
+  pub narrowest : 2 ≤ parts.width
+  pub widest : parts.width ≤ 32
+  pub few : length parts.edges ≤ 8192
+  pub choices : All IsChoice parts.choices
+  pub types : All (λ (edge : Edge). IsTypeOf parts edge.ty) parts.edges
+  pub typed : All (λ (edge : Edge). IsWellTyped parts edge.op edge.ty) parts.edges
+  pub names : All (λ (edge : Edge). IsName edge.name) parts.edges
+  pub apart : AllPairs (λ (a b : Edge). a.name ≢ b.name) parts.edges
+  pub inputs : HasInputs parts.edges parts.inputs
+  pub outputs : All (λ (e : EdgeId). e.0 < length parts.edges) parts.outputs
+  pub once : AllPairs (λ (a b : EdgeId). a ≢ b) parts.outputs
+  pub asserts : All (λ (e : EdgeId). type_of parts.edges e ≡ Some type.Truth) parts.asserts
+  pub asserted_once : AllPairs (λ (a b : EdgeId). a ≢ b) parts.asserts
+
+-- a value of the type of an input
+abbrev pub FitsInput : Parts → EdgeId → Value → Type 0
+FitsInput parts e v = (ty : Ty) → type_of parts.edges e ≡ Some ty → HasType parts v ty
+
+-- a value of each input's type
+abbrev pub FitsRow : Parts → List Value → Type 0
+FitsRow parts row = (length row ≡ length parts.inputs) × ((i : ℕ) (e : EdgeId) (v : Value) → slice_get parts.inputs i ≡ Some e → slice_get row i ≡ Some v → FitsInput parts e v)
+
+-- at least one instant, and at each a row of values that fits
+pub record FitsTest (parts : Parts) (test : Test) : Type 0 where
+  pub some : 1 ≤ test.instants
+  pub size : length test.values ≡ test.instants * length parts.inputs
+  pub each : All (FitsRow parts) (rows (length parts.inputs) test.instants test.values)
