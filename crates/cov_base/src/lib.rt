@@ -2,7 +2,10 @@
 //! and sinks through which it reaches the outside.
 #![tactic(auto)]
 
+mod bit_row;
+mod bits;
 mod count;
+mod decimal;
 mod list;
 mod mem_sink;
 mod mem_store;
@@ -14,6 +17,8 @@ mod store;
 mod tests;
 mod text;
 
+pub use bit_row::BitRow;
+pub use decimal::{push_decimal, push_percent};
 pub use list::List;
 pub use mem_sink::MemSink;
 pub use mem_store::MemStore;

@@ -1,3 +1,5 @@
+ghost use Rattle.std.specs.Prelude.{◌≤◌};
+
 use super::*;
 use std::alloc::Global;
 use std::collections::BTreeMap;
@@ -131,5 +133,55 @@ fn a_list_changes(rt: HostRuntime) -> Result<(), Fail> {
     let copy = Text::from_bytes(alloc, list.as_slice())?.copy(alloc)?;
     let items = List::from_vec(list.into_vec());
     assert_eq!(rt; copy.bytes(), items.as_slice());
+    Ok(())
+}
+
+#[test]
+fn numbers_are_written_in_decimal(rt: HostRuntime) -> Result<(), Fail> {
+    for (n, want) in [
+        (0, b"n=0".as_slice()),
+        (7, b"n=7".as_slice()),
+        (-7, b"n=-7".as_slice()),
+        (10, b"n=10".as_slice()),
+        (-10, b"n=-10".as_slice()),
+        (i64::MAX, b"n=9223372036854775807".as_slice()),
+        (i64::MIN, b"n=-9223372036854775808".as_slice()),
+    ] {
+        let mut out = List::new(rt.alloc());
+        out.extend_from_slice(b"n=")?;
+        push_decimal(&mut out, n)?;
+        assert_eq!(rt; out.as_slice(), want, "{n}");
+    }
+    Ok(())
+}
+
+/// The text `at `, and the percentage after it.
+fn with_percent(alloc: Global, covered: u32, total: u32) -> Result<List<u8>, Fail>
+    requires { covered ≤ total }
+{
+    let mut out = List::new(alloc);
+    out.extend_from_slice(b"at ")?;
+    push_percent(&mut out, covered, total)?;
+    Ok(out)
+}
+
+#[test]
+fn percentages_are_rounded_down(rt: HostRuntime) -> Result<(), Fail> {
+    let alloc = rt.alloc();
+    for (out, want) in [
+        (with_percent(alloc, 13, 16)?, b"at 81.2%".as_slice()),
+        (with_percent(alloc, 3, 4)?, b"at 75.0%".as_slice()),
+        (with_percent(alloc, 2, 2)?, b"at 100.0%".as_slice()),
+        (with_percent(alloc, 0, 2)?, b"at 0.0%".as_slice()),
+        (with_percent(alloc, 1, 2000)?, b"at 0.0%".as_slice()),
+        (with_percent(alloc, 1999, 2000)?, b"at 99.9%".as_slice()),
+        (
+            with_percent(alloc, u32::MAX, u32::MAX)?,
+            b"at 100.0%".as_slice(),
+        ),
+        (with_percent(alloc, 0, 0)?, b"at -".as_slice()),
+    ] {
+        assert_eq!(rt; out.as_slice(), want);
+    }
     Ok(())
 }

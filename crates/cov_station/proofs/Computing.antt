@@ -84,7 +84,7 @@ front_closed edges sequence causal i e h edge found o is =
     more_taken o sequence p.0 i (omega (arith, p.1)) (no_known (causal_at edges [] sequence causal p.0 e p.2 edge there_found o is))
 
 -- an operator's value is that of its operands
-value_same : (op : Op) (ty : Ty) (before : Option (List Value)) (now now' inputs : List Value) → ((o : EdgeId) → In o (operands_now op) → at_edge now' o ≡ at_edge now o) → operator_value op ty before now' inputs ≡ operator_value op ty before now inputs
+pub value_same : (op : Op) (ty : Ty) (before : Option (List Value)) (now now' inputs : List Value) → ((o : EdgeId) → In o (operands_now op) → at_edge now' o ≡ at_edge now o) → operator_value op ty before now' inputs ≡ operator_value op ty before now inputs
 value_same (Input i) ty before now now' inputs h = refl
 value_same (Const v) ty before now now' inputs h = refl
 value_same (Id a) ty before now now' inputs h = h a here

@@ -1,13 +1,15 @@
 -- From what was put to the outcome.
-use Rattle.std.proofs.Common.{◌≡◌, ℕ, List, refl, subst, sym}
+use Rattle.std.proofs.Common.{◌≡◌, ℕ, List, refl, subst}
 use Rattle.std.specs.Prelude.{Option}
 use Rattle.cov_base.specs.Files.{Files, OnlyReadsRose}
 use Rattle.cov_station.specs.declared.refusal.Refusal.{Refusal}
 use Rattle.cov_station.specs.declared.refusal.Refusal.TheVariants as why
 use Rattle.cov_station.specs.declared.status.Status.{Status}
 use Rattle.cov_station.specs.declared.status.Status.TheVariants.{Done, ReadFault}
-use Rattle.cov_station.specs.Answers.{IsRunCommand, RunPrints, Prints, prints_run, Refuses, run_refuses, HasCounts, ReadsFile, reads_source, reads_suite, Says, says_text, says_refusal, says_fault, cannot_read, IsRefusal}
-use Rattle.cov_station.specs.Outcomes.{Change, Puts, Outcome, ends_done, ends_refused, ends_unread, ends_broken, IsFinished, finished_whole, finished_broken}
+use Rattle.cov_station.specs.declared.words.Command.{Command}
+use Rattle.cov_station.specs.Answers.{Prints, Refuses, command_refuses, HasCounts, ReadsFile, reads_source, reads_suite, says_text, says_refusal, says_fault, cannot_read, IsRefusal}
+use Rattle.cov_station.specs.Commands.{IsCommand}
+use Rattle.cov_station.specs.Outcomes.{Change, Outcome, ends_done, ends_refused, ends_unread, ends_broken, IsFinished, finished_whole, finished_broken}
 use Rattle.cov_station.specs.Refusals.{IsDue, line_of, status_of}
 
 abbrev Finishes : Change → List ℕ → Status → Status → Type 0
@@ -32,12 +34,13 @@ finishes {text} given {due} {status} {written} {written'} {faults} {faults'} e f
 pub finishes_as : {due status : Status} (given : Status) {text : List ℕ} {written written' : Option (List ℕ)} {faults faults' : ℕ} → given ≡ due → IsFinished written written' faults faults' text given status → IsFinished written written' faults faults' text due status
 finishes_as {due} {status} given {text} {written} {written'} {faults} {faults'} e f = subst (λ d. IsFinished written written' faults faults' text d status) e f
 
--- a refusal of `run` whose line was being put
-pub due_ends : {words : List (List ℕ)} {files : Option Files} {status : Status} (source suite : List ℕ) (change : Change) (reason : Refusal) → IsRunCommand words source suite → IsDue source suite files change.counts change.counts' reason → (reason ≡ why.Memory → ⊥) → Finishes change (line_of source suite reason) (status_of reason) status → Outcome words files change status
-due_ends source suite change why.NoSource c due some f = refused_ends change tt (run_refuses c due.0) due.1 f
-due_ends source suite change why.NoSuite c due some f = refused_ends change tt (run_refuses c due.0) due.1 f
-due_ends source suite change why.SourceUnread c due some f = unread_ends change (reads_source c) due f
-due_ends source suite change why.SuiteUnread c due some f = unread_ends change (reads_suite c due.0.held due.0.program) due.1 f
-due_ends source suite change why.SourceNotPlain c due some f = refused_ends change tt (run_refuses c due.0) due.1 f
-due_ends source suite change why.SuiteNotPlain c due some f = refused_ends change tt (run_refuses c due.0) due.1 f
-due_ends source suite change why.Memory c due some f = absurd (some refl)
+-- a refusal of a command whose line was being put
+pub due_ends : {words : List (List ℕ)} {files : Option Files} {status : Status} (command : Command) (source suite : List ℕ) (change : Change) (reason : Refusal) → IsCommand words command source suite → IsDue command source suite files change.counts change.counts' reason → (reason ≡ why.Memory → ⊥) → Finishes change (line_of source suite reason) (status_of reason) status → Outcome words files change status
+due_ends command source suite change why.NoSource c due some f = refused_ends change tt (command_refuses c due.0) due.1 f
+due_ends command source suite change why.NoSuite c due some f = refused_ends change tt (command_refuses c due.0) due.1 f
+due_ends command source suite change why.SourceUnread c due some f = unread_ends change (reads_source c) due f
+due_ends command source suite change why.SuiteUnread c due some f = unread_ends change (reads_suite c due.0.held due.0.program due.0.within) due.1 f
+due_ends command source suite change why.SourceNotPlain c due some f = refused_ends change tt (command_refuses c due.0) due.1 f
+due_ends command source suite change why.TooManyPaths c due some f = refused_ends change tt (command_refuses c due.0) due.1 f
+due_ends command source suite change why.SuiteNotPlain c due some f = refused_ends change tt (command_refuses c due.0) due.1 f
+due_ends command source suite change why.Memory c due some f = absurd (some refl)

@@ -64,7 +64,7 @@ output_names node plain well = names_kept (numbering node) (net node).edges node
         ap (λ k. name_of (net node).edges (edge k)) (skip_inputs 0 node.inputs _ x (λ k. apart node.inputs _ well.distinct k j))
         ∙ roots_named (numbering node) (net node).edges plain (length node.inputs) (items_start node) well.once x i
 
-rows_count : (width instants : ℕ) (values : List Value) → length (rows width instants values) ≡ instants
+pub rows_count : (width instants : ℕ) (values : List Value) → length (rows width instants values) ≡ instants
 rows_count width zero values = refl
 rows_count width (suc instants) values = ap suc (rows_count width instants _)
 

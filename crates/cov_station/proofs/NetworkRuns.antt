@@ -41,7 +41,7 @@ items_hold {edges} {rows} {frames} {n} table bindings ran (plain_items {at = pla
 )
 
 -- the columns of the inputs' edges are the inputs
-inputs_columns : (edges : List Edge) (rows frames : List (List Value)) → IsRun edges rows frames → (place : ℕ) (names : List Name) (rest : List Edge) → drop place edges ≡ input_edges place names ++ rest → columns place names frames ≡ columns place names rows
+pub inputs_columns : (edges : List Edge) (rows frames : List (List Value)) → IsRun edges rows frames → (place : ℕ) (names : List Name) (rest : List Edge) → drop place edges ≡ input_edges place names ++ rest → columns place names frames ≡ columns place names rows
 inputs_columns edges rows frames run place [] rest h = refl
 inputs_columns edges rows frames run place (x ∷ names) rest h =
     let has : HasOp edges place _ = record { edge = _; found = drop_head place edges h; operator = refl; truths = refl } in
@@ -89,7 +89,7 @@ columns_hold node n rows frames plain well count run =
     (record { each = λ x i. skip_inputs 0 node.inputs _ x (λ j. apart node.inputs _ well.distinct j (among _ _ well.only i)) })
 
 -- the run, with the streams as the columns of the variables' edges
-columns_run : (node : Node) (n : ℕ) (rows frames : List (List Value)) → ArePlainItems node.items → IsWellFormed node → length rows ≡ n → IsRun (net node).edges rows frames → NodeRun node n (columns 0 node.inputs frames) (picked (numbering node) frames node.outputs)
+pub columns_run : (node : Node) (n : ℕ) (rows frames : List (List Value)) → ArePlainItems node.items → IsWellFormed node → length rows ≡ n → IsRun (net node).edges rows frames → NodeRun node n (columns 0 node.inputs frames) (picked (numbering node) frames node.outputs)
 columns_run node n rows frames plain well count run =
     let size : length frames ≡ n = frame_count (net node).edges None rows frames run ∙ count in
     record {
@@ -101,6 +101,10 @@ columns_run node n rows frames plain well count run =
           (have_append n (picked (numbering node) frames node.outputs) _ (have_picked n (edge_of (numbering node)) node.outputs frames size) (have_picked n (edge_of (numbering node)) node.locals frames size));
       equations = columns_hold node n rows frames plain well count run;
     }
+
+pub columns_locals : (node : Node) (n : ℕ) (rows frames : List (List Value)) (plain : ArePlainItems node.items) (well : IsWellFormed node) (count : length rows ≡ n) (run : IsRun (net node).edges rows frames) → (columns_run node n rows frames plain well count run).locals ≡ map (λ x. column (edge_of (numbering node) x) frames) node.locals
+unfolding columns_run
+columns_locals node n rows frames plain well count run = refl
 
 -- The run of the network over rows of inputs is the node's run on the inputs' streams, and its outputs'
 -- streams are those of the network's outputs.

@@ -1,13 +1,20 @@
 -- The answers of the station: what a command prints, and the first refusal of its steps.
-use Rattle.std.specs.Prelude.{◌≡◌, ◌⊎◌, ℕ, Bool, false, ◌==◌, List, [], ◌∷◌, ◌++◌, codes, Option, Some, None, IfSome}
+use Rattle.std.specs.Prelude.{◌≡◌, ◌⊎◌, ℕ, List, [], ◌∷◌, ◌++◌, codes, Option, Some, None, IfSome}
 use Rattle.cov_base.specs.Files.{Files, Counts, OnlyMissingRose, OnlyReadsRose}
+use Rattle.dep_paths.specs.Paths.{MoreThan}
 use Rattle.lus_syntax.specs.declared.ast.Ast.{Ast}
 use Rattle.lus_syntax.specs.Plain.{IsPlain}
+use Rattle.op_network.specs.declared.edge.Parts.{Parts}
 use Rattle.op_network.specs.declared.test.Test.{Test}
 use Rattle.cov_station.specs.declared.status.Status.{Status}
 use Rattle.cov_station.specs.declared.status.Status.TheVariants.{Done, Usage, Missing, ReadFault, Source, Limit, Unreadable, Refused, WriteFault, Memory}
+use Rattle.cov_station.specs.declared.words.Command.{Command}
+use Rattle.cov_station.specs.declared.words.Command.TheVariants.{Run, Score}
+use Rattle.cov_station.specs.Commands.{IsCommand}
+use Rattle.cov_station.specs.Net.{net}
 use Rattle.cov_station.specs.Nodes.{Node, Describes}
 use Rattle.cov_station.specs.RunText.{RunText}
+use Rattle.cov_station.specs.ScoreText.{ScoreText}
 use Rattle.cov_station.specs.Suites.{IsPlainSuite}
 use Rattle.cov_station.specs.WellFormed.{IsWellFormed}
 
@@ -18,17 +25,6 @@ pub record IsProgram (source : List ℕ) (node : Node) : Type 0 where
   pub described : Describes tree node
   pub well_formed : IsWellFormed node
 
--- the word begins with `-`
-abbrev pub is_option : List ℕ → Bool
-is_option [] = false
-is_option (b ∷ bytes) = b == 45
-
--- the words are `run SOURCE SUITE`, and neither name begins with `-`
-pub record IsRunCommand (words : List (List ℕ)) (source suite : List ℕ) : Type 0 where
-  pub three : words ≡ codes "run" ∷ source ∷ suite ∷ []
-  pub source_name : is_option source ≡ false
-  pub suite_name : is_option suite ≡ false
-
 -- the store has these bytes under the name, where it tells its files
 abbrev pub HasFile : Option Files → List ℕ → List ℕ → Type 0
 HasFile files name bytes = IfSome files (λ told. told name ≡ Some bytes)
@@ -37,30 +33,41 @@ HasFile files name bytes = IfSome files (λ told. told name ≡ Some bytes)
 abbrev pub LacksFile : Option Files → List ℕ → Type 0
 LacksFile files name = IfSome files (λ told. told name ≡ None)
 
--- the files that `run` reads are there and in their forms: SOURCE holds a plain program, and SUITE a
--- plain suite for it
-pub record RunIsReady (source suite : List ℕ) (files : Option Files) : Type 0 where
+-- the network has more than 20,000 complete paths of at most n edges; `run` lists none
+abbrev pub BreaksLimit : Command → Parts → Type 0
+BreaksLimit Run parts = ⊥
+BreaksLimit (Score n) parts = MoreThan 20000 parts n
+
+-- the files that the command reads are there and in their forms: SOURCE holds a plain program, within the
+-- command's limit, and SUITE a plain suite for it
+pub record FilesAreReady (command : Command) (source suite : List ℕ) (files : Option Files) : Type 0 where
   pub source_bytes : List ℕ
   pub suite_bytes : List ℕ
   pub source_file : HasFile files source source_bytes
   pub suite_file : HasFile files suite suite_bytes
   pub node : Node
   pub program : IsProgram source_bytes node
+  pub within : BreaksLimit command (net node) → ⊥
   pub tests : List Test
   pub plain : IsPlainSuite node.inputs suite_bytes tests
 
--- `run` prints this text: that of the program's runs over the suite's tests
-pub record RunPrints (source suite : List ℕ) (files : Option Files) (text : List ℕ) : Type 0 where
-  pub ready : RunIsReady source suite files
-  pub runs : RunText ready.node ready.tests text
+-- the text of a command over a program and tests: that of the program's runs, or that of the tests' score
+abbrev pub CommandText : Command → Node → List Test → List ℕ → Type 0
+CommandText Run node tests text = RunText node tests text
+CommandText (Score n) node tests text = ScoreText node n tests text
+
+-- the command prints this text over its files
+pub record CommandPrints (command : Command) (source suite : List ℕ) (files : Option Files) (text : List ℕ) : Type 0 where
+  pub ready : FilesAreReady command source suite files
+  pub says : CommandText command ready.node ready.tests text
 
 -- the words are a command, and its files are there and in their forms
 pub data IsReady (words : List (List ℕ)) (files : Option Files) : Type 0 where
-  run_ready : {source suite : List ℕ} → IsRunCommand words source suite → RunIsReady source suite files → IsReady words files
+  command_ready : {command : Command} {source suite : List ℕ} → IsCommand words command source suite → FilesAreReady command source suite files → IsReady words files
 
 -- what the words' command prints where it ends Done
 pub data Prints (words : List (List ℕ)) (files : Option Files) (text : List ℕ) : Type 0 where
-  prints_run : {source suite : List ℕ} → IsRunCommand words source suite → RunPrints source suite files text → Prints words files text
+  command_prints : {command : Command} {source suite : List ℕ} → IsCommand words command source suite → CommandPrints command source suite files text → Prints words files text
 
 -- a line of a refusal
 abbrev pub refusal : List ℕ → List ℕ
@@ -72,26 +79,38 @@ no_file name = refusal (codes "no file " ++ name)
 abbrev pub cannot_read : List ℕ → List ℕ
 cannot_read name = refusal (codes "cannot read " ++ name)
 
--- The first refusal of `run`, where no read fails: SOURCE there, SOURCE plain, SUITE there, SUITE plain.
-pub data RunRefuses (source suite : List ℕ) (files : Option Files) : Status → List ℕ → Type 0 where
-  no_source : LacksFile files source → RunRefuses source suite files Missing (no_file source)
+abbrev pub no_plain_source : List ℕ
+no_plain_source = refusal (codes "not plain")
+
+abbrev pub over_paths : List ℕ
+over_paths = refusal (codes "limit: paths 20001 > 20000")
+
+abbrev pub no_plain_suite : List ℕ
+no_plain_suite = refusal (codes "suite not plain")
+
+-- The first refusal of a command, where no read fails: SOURCE there, SOURCE plain, SOURCE within the
+-- command's limit, SUITE there, SUITE plain.
+pub data CommandRefuses (command : Command) (source suite : List ℕ) (files : Option Files) : Status → List ℕ → Type 0 where
+  no_source : LacksFile files source → CommandRefuses command source suite files Missing (no_file source)
   source_not_plain : {bytes : List ℕ} → HasFile files source bytes → ((node : Node) → IsProgram bytes node → ⊥)
-      → RunRefuses source suite files Source (refusal (codes "not plain"))
-  no_suite : {bytes : List ℕ} {node : Node} → HasFile files source bytes → IsProgram bytes node → LacksFile files suite
-      → RunRefuses source suite files Missing (no_file suite)
-  suite_not_plain : {bytes suite_bytes : List ℕ} {node : Node} → HasFile files source bytes → IsProgram bytes node → HasFile files suite suite_bytes
+      → CommandRefuses command source suite files Source no_plain_source
+  too_many_paths : {bytes : List ℕ} {node : Node} → HasFile files source bytes → IsProgram bytes node → BreaksLimit command (net node)
+      → CommandRefuses command source suite files Limit over_paths
+  no_suite : {bytes : List ℕ} {node : Node} → HasFile files source bytes → IsProgram bytes node → (BreaksLimit command (net node) → ⊥) → LacksFile files suite
+      → CommandRefuses command source suite files Missing (no_file suite)
+  suite_not_plain : {bytes suite_bytes : List ℕ} {node : Node} → HasFile files source bytes → IsProgram bytes node → (BreaksLimit command (net node) → ⊥) → HasFile files suite suite_bytes
       → ((tests : List Test) → IsPlainSuite node.inputs suite_bytes tests → ⊥)
-      → RunRefuses source suite files Unreadable (refusal (codes "suite not plain"))
+      → CommandRefuses command source suite files Unreadable no_plain_suite
 
 -- The first refusal that the steps meet, where no read fails, with its status and its line.
 pub data Refuses (words : List (List ℕ)) (files : Option Files) : Status → List ℕ → Type 0 where
-  no_command : ((source suite : List ℕ) → IsRunCommand words source suite → ⊥) → Refuses words files Usage (refusal (codes "usage"))
-  run_refuses : {source suite line : List ℕ} {status : Status} → IsRunCommand words source suite → RunRefuses source suite files status line → Refuses words files status line
+  no_command : ((command : Command) (source suite : List ℕ) → IsCommand words command source suite → ⊥) → Refuses words files Usage (refusal (codes "usage"))
+  command_refuses : {command : Command} {source suite line : List ℕ} {status : Status} → IsCommand words command source suite → CommandRefuses command source suite files status line → Refuses words files status line
 
--- a file that the command comes to read: SUITE only where SOURCE holds a plain program
+-- a file that the command comes to read: SUITE only where SOURCE holds a plain program within the limit
 pub data ReadsFile (words : List (List ℕ)) (files : Option Files) : List ℕ → Type 0 where
-  reads_source : {source suite : List ℕ} → IsRunCommand words source suite → ReadsFile words files source
-  reads_suite : {source suite bytes : List ℕ} {node : Node} → IsRunCommand words source suite → HasFile files source bytes → IsProgram bytes node → ReadsFile words files suite
+  reads_source : {command : Command} {source suite : List ℕ} → IsCommand words command source suite → ReadsFile words files source
+  reads_suite : {command : Command} {source suite bytes : List ℕ} {node : Node} → IsCommand words command source suite → HasFile files source bytes → IsProgram bytes node → (BreaksLimit command (net node) → ⊥) → ReadsFile words files suite
 
 -- the counts of the store after a refusal: that of missing files rose where a file is missing
 abbrev pub HasCounts : Status → Counts → Counts → Type 0

@@ -1,6 +1,7 @@
 pub mod Answers
 pub mod Checks
 pub mod Codes
+pub mod Commands
 pub mod Frames
 pub mod Lists
 pub mod Net
@@ -8,10 +9,13 @@ pub mod NetworkText
 pub mod Nodes
 pub mod Order
 pub mod Outcomes
+pub mod Planning
 pub mod Refusals
 pub mod RunText
+pub mod ScoreText
 pub mod Sequence
 pub mod Shapes
+pub mod SourceRuns
 pub mod Streams
 pub mod SuiteParts
 pub mod Suites

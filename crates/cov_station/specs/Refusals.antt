@@ -1,5 +1,5 @@
--- What the refusals of `run` say and why they come.
-use Rattle.std.specs.Prelude.{◌≡◌, ℕ, ◌<◌, ◌≤◌, List, [], ◌∷◌, ◌++◌, length, codes, Option}
+-- What the refusals of a command say and why they come.
+use Rattle.std.specs.Prelude.{◌≡◌, ℕ, ◌<◌, ◌≤◌, List, [], length, codes, Option}
 use Rattle.cov_base.specs.Files.{Files, Counts, OnlyMissingRose, OnlyReadsRose}
 use Rattle.op_network.specs.declared.test.Test.{Test}
 use Rattle.cov_station.specs.declared.files.Contents.{Contents}
@@ -7,8 +7,10 @@ use Rattle.cov_station.specs.declared.files.Contents.TheVariants.{Whole, TooLong
 use Rattle.cov_station.specs.declared.status.Status.{Status}
 use Rattle.cov_station.specs.declared.status.Status.TheVariants as status
 use Rattle.cov_station.specs.declared.refusal.Refusal.{Refusal}
-use Rattle.cov_station.specs.declared.refusal.Refusal.TheVariants.{NoSource, NoSuite, SourceUnread, SuiteUnread, SourceNotPlain, SuiteNotPlain, Memory}
-use Rattle.cov_station.specs.Answers.{refusal, no_file, cannot_read, HasFile, LacksFile, IsProgram, RunRefuses}
+use Rattle.cov_station.specs.declared.refusal.Refusal.TheVariants.{NoSource, NoSuite, SourceUnread, SuiteUnread, SourceNotPlain, TooManyPaths, SuiteNotPlain, Memory}
+use Rattle.cov_station.specs.declared.words.Command.{Command}
+use Rattle.cov_station.specs.Answers.{no_file, cannot_read, no_plain_source, over_paths, no_plain_suite, HasFile, LacksFile, IsProgram, BreaksLimit, CommandRefuses}
+use Rattle.cov_station.specs.Net.{net}
 use Rattle.cov_station.specs.Nodes.{Name, Node}
 use Rattle.cov_station.specs.Suites.{IsPlainSuite}
 
@@ -18,6 +20,7 @@ status_of NoSuite = status.Missing
 status_of SourceUnread = status.ReadFault
 status_of SuiteUnread = status.ReadFault
 status_of SourceNotPlain = status.Source
+status_of TooManyPaths = status.Limit
 status_of SuiteNotPlain = status.Unreadable
 status_of Memory = status.Memory
 
@@ -27,26 +30,29 @@ line_of source suite NoSource = no_file source
 line_of source suite NoSuite = no_file suite
 line_of source suite SourceUnread = cannot_read source
 line_of source suite SuiteUnread = cannot_read suite
-line_of source suite SourceNotPlain = refusal (codes "not plain")
-line_of source suite SuiteNotPlain = refusal (codes "suite not plain")
+line_of source suite SourceNotPlain = no_plain_source
+line_of source suite TooManyPaths = over_paths
+line_of source suite SuiteNotPlain = no_plain_suite
 line_of source suite Memory = []
 
--- SOURCE was read and holds a plain program
-pub record IsReached (source : List ℕ) (files : Option Files) : Type 0 where
+-- SOURCE was read and holds a plain program, within the command's limit
+pub record IsReached (command : Command) (source : List ℕ) (files : Option Files) : Type 0 where
   pub bytes : List ℕ
   pub held : HasFile files source bytes
   pub node : Node
   pub program : IsProgram bytes node
+  pub within : BreaksLimit command (net node) → ⊥
 
 -- why a refusal comes, by the files and by the counts before and after
-abbrev pub IsDue : List ℕ → List ℕ → Option Files → Counts → Counts → Refusal → Type 0
-IsDue source suite files old new NoSource = RunRefuses source suite files status.Missing (no_file source) × OnlyMissingRose old new
-IsDue source suite files old new NoSuite = RunRefuses source suite files status.Missing (no_file suite) × OnlyMissingRose old new
-IsDue source suite files old new SourceUnread = OnlyReadsRose old new
-IsDue source suite files old new SuiteUnread = IsReached source files × OnlyReadsRose old new
-IsDue source suite files old new SourceNotPlain = RunRefuses source suite files status.Source (refusal (codes "not plain")) × (new ≡ old)
-IsDue source suite files old new SuiteNotPlain = RunRefuses source suite files status.Unreadable (refusal (codes "suite not plain")) × (new ≡ old)
-IsDue source suite files old new Memory = Unit {0}
+abbrev pub IsDue : Command → List ℕ → List ℕ → Option Files → Counts → Counts → Refusal → Type 0
+IsDue command source suite files old new NoSource = CommandRefuses command source suite files status.Missing (no_file source) × OnlyMissingRose old new
+IsDue command source suite files old new NoSuite = CommandRefuses command source suite files status.Missing (no_file suite) × OnlyMissingRose old new
+IsDue command source suite files old new SourceUnread = OnlyReadsRose old new
+IsDue command source suite files old new SuiteUnread = IsReached command source files × OnlyReadsRose old new
+IsDue command source suite files old new SourceNotPlain = CommandRefuses command source suite files status.Source no_plain_source × (new ≡ old)
+IsDue command source suite files old new TooManyPaths = CommandRefuses command source suite files status.Limit over_paths × (new ≡ old)
+IsDue command source suite files old new SuiteNotPlain = CommandRefuses command source suite files status.Unreadable no_plain_suite × (new ≡ old)
+IsDue command source suite files old new Memory = Unit {0}
 
 -- the bytes of a file of at most 1,048,576 bytes, or only that it has more
 abbrev pub IsRead : Contents → List ℕ → Type 0

@@ -1,14 +1,14 @@
-ghost use Rattle.std.specs.Prelude.{◌≡◌, ◌*◌, ◌++◌, ◌<◌, Some, length, slice_get, slice_set, IfOk, OnOk, option_map};
+ghost use Rattle.std.specs.Prelude.{◌≡◌, ◌-◌, ◌*◌, ◌++◌, ◌<◌, Some, length, slice_get, slice_set, IfOk, OnOk, option_map};
 ghost use Rattle.op_network.specs.declared.edge.Edge.{Edge as NetworkEdge};
 ghost use Rattle.op_network.specs.Operators.{operator_value as value_of};
-ghost use Rattle.op_network.specs.Run.{IsFrame};
+ghost use Rattle.op_network.specs.Run.{IsFrame, IsRun};
 ghost use Rattle.cov_station.specs.Frames.{AreOutputs, past};
-ghost use Rattle.cov_station.specs.NetworkText.{selected};
+ghost use Rattle.cov_station.specs.NetworkText.{input_rows, selected};
 ghost use Rattle.cov_station.specs.Order.{IsOrder};
 
 use crate::values::value_at;
 use cov_base::{List, Memory};
-use op_network::{Edge, EdgeId, Network, Test, Value, operator_value};
+use op_network::{Edge, EdgeId, Frame, Network, Test, Value, operator_value};
 use std::alloc::Global;
 use std::mem;
 
@@ -115,4 +115,60 @@ pub(crate) fn outputs_over(
         started = true;
     }
     Ok(values)
+}
+
+/// The values of the last of these frames, if there is one.
+fn last_values(frames: &[Frame]) -> Option<&[Value]>
+    ensures { option_map (λ values. values.now) result ≡ slice_get frames.now (length frames.now - 1) }
+{
+    match frames.last() {
+        Some(frame) => Some(frame.values()),
+        None => None,
+    }
+}
+
+/// The frame of an instant, behind the values of the instant before. Linear in the order.
+fn frame_after(
+    alloc: Global,
+    network: &Network,
+    sequence: &[EdgeId],
+    before: Option<&[Value]>,
+    inputs: &[Value],
+) -> Result<Frame, Memory>
+    requires { IsOrder network.now.edges sequence.now }
+    ensures { IfOk result (λ frame. IsFrame network.now.edges (option_map (λ values. values.now) before.entry) inputs.now frame) }
+{
+    let mut now = blank(alloc, network)?;
+    compute_frame(network, sequence, before, inputs, now.items_mut());
+    Ok(Frame::of(now))
+}
+
+/// The frames of a test, one for each instant. Linear in edges times instants, in time and in
+/// memory.
+pub(crate) fn frames_over(
+    alloc: Global,
+    network: &Network,
+    sequence: &[EdgeId],
+    test: &Test,
+) -> Result<List<Frame>, Memory>
+    requires order { IsOrder network.now.edges sequence.now }
+    requires size { length test.now.values ≡ test.now.instants * length network.now.inputs }
+    ensures { IfOk result (λ frames. IsRun network.now.edges (input_rows network.now test.now) frames) }
+{
+    let width = network.parts().inputs.len();
+    let mut frames = List::new(alloc);
+    let mut rest = test.values.as_slice();
+    let mut left = test.instants;
+    while left > 0 {
+        let (inputs, later) = rest.split_at(width);
+        let before = last_values(frames.as_slice());
+        let frame = frame_after(alloc, network, sequence, before, inputs)?;
+        match frames.push(frame) {
+            Ok(()) => {}
+            Err(_) => return Err(Memory),
+        }
+        rest = later;
+        left -= 1;
+    }
+    Ok(frames)
 }

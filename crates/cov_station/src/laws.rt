@@ -1,8 +1,12 @@
 ghost use Rattle.std.specs.Prelude.{◌≡◌, ℕ, List as Seq, length};
 ghost use Rattle.op_network.specs.declared.test.Test.{Test};
+ghost use Rattle.op_network.specs.declared.value.Value.{Value};
 ghost use Rattle.cov_station.specs.Answers.{IsProgram};
+ghost use Rattle.op_network.specs.Run.{IsRun};
+ghost use Rattle.cov_station.specs.Net.{net};
 ghost use Rattle.cov_station.specs.Nodes.{Node};
 ghost use Rattle.cov_station.specs.RunText.{RunText};
+ghost use Rattle.cov_station.specs.ScoreText.{ScoreText};
 ghost use Rattle.cov_station.specs.Streams.{Stream, HaveLength, NodeRun};
 
 /// A plain program has exactly one run over given inputs, so its text is determined. Does nothing: its
@@ -12,4 +16,11 @@ pub fn one_run()
     ensures outputs { (source : Seq ℕ) (node : Node) (n : ℕ) (ins outs others : Seq Stream) → IsProgram source node → NodeRun node n ins outs → NodeRun node n ins others → outs ≡ others }
     ensures locals { (source : Seq ℕ) (node : Node) (n : ℕ) (ins outs others : Seq Stream) → IsProgram source node → (run : NodeRun node n ins outs) (twin : NodeRun node n ins others) → run.locals ≡ twin.locals }
     ensures text { (source : Seq ℕ) (node : Node) (tests : Seq Test) (text other : Seq ℕ) → IsProgram source node → RunText node tests text → RunText node tests other → text ≡ other }
+{}
+
+/// The network of a plain program has at most one run over given inputs, and so a score has one text. Does
+/// nothing: its clauses are the law.
+pub fn one_score()
+    ensures frames { (source : Seq ℕ) (node : Node) (rows frames others : Seq (Seq Value)) → IsProgram source node → IsRun (net node).edges rows frames → IsRun (net node).edges rows others → frames ≡ others }
+    ensures text { (source : Seq ℕ) (node : Node) (n : ℕ) (tests : Seq Test) (text other : Seq ℕ) → IsProgram source node → ScoreText node n tests text → ScoreText node n tests other → text ≡ other }
 {}

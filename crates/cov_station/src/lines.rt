@@ -46,7 +46,7 @@ fn push_stream(
 }
 
 /// The name of an edge.
-fn edge_name(edges: &[Edge], e: EdgeId) -> &[u8]
+pub(crate) fn edge_name(edges: &[Edge], e: EdgeId) -> &[u8]
     ensures { result.now ≡ name_of edges.now e }
 {
     match edges.get(e.0 as usize) {

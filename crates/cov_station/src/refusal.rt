@@ -6,7 +6,7 @@ use crate::status::Status;
 use cov_base::{List, Memory};
 use std::alloc::Global;
 
-/// Why `run` refuses.
+/// Why a command refuses.
 #[derive(Clone, Copy, Debug, PartialEq, Eq)]
 pub(crate) enum Refusal {
     NoSource,
@@ -14,6 +14,7 @@ pub(crate) enum Refusal {
     SourceUnread,
     SuiteUnread,
     SourceNotPlain,
+    TooManyPaths,
     SuiteNotPlain,
     Memory,
 }
@@ -26,6 +27,7 @@ impl Refusal {
             Refusal::NoSource | Refusal::NoSuite => Status::Missing,
             Refusal::SourceUnread | Refusal::SuiteUnread => Status::ReadFault,
             Refusal::SourceNotPlain => Status::Source,
+            Refusal::TooManyPaths => Status::Limit,
             Refusal::SuiteNotPlain => Status::Unreadable,
             Refusal::Memory => Status::Memory,
         }
@@ -51,7 +53,7 @@ pub(crate) fn usage_line(alloc: Global) -> Result<List<u8>, Memory>
     line(alloc, b"usage", b"")
 }
 
-/// The line of a refusal of `run` on these files. Want of memory has none.
+/// The line of a refusal of a command on these files. Want of memory has none.
 pub(crate) fn refusal_line(
     alloc: Global,
     why: Refusal,
@@ -67,6 +69,7 @@ pub(crate) fn refusal_line(
         Refusal::SourceUnread => line(alloc, b"cannot read ", source.as_bytes()),
         Refusal::SuiteUnread => line(alloc, b"cannot read ", suite.as_bytes()),
         Refusal::SourceNotPlain => line(alloc, b"not plain", b""),
+        Refusal::TooManyPaths => line(alloc, b"limit: paths 20001 > 20000", b""),
         Refusal::SuiteNotPlain => line(alloc, b"suite not plain", b""),
         Refusal::Memory => Err(Memory),
     }

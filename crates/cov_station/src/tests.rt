@@ -1,3 +1,5 @@
+mod scores;
+
 use crate::{Status, station};
 use cov_base::{List, MemSink, MemStore, Text};
 use std::alloc::Global;
@@ -241,10 +243,26 @@ fn words_are_read(rt: HostRuntime) -> Result<(), Fail> {
     run_usage(&rt, &[])?;
     run_usage(&rt, &["run"])?;
     run_usage(&rt, &["run", "e.lus"])?;
-    run_usage(&rt, &["score", "e.lus", "a.csv"])?;
     run_usage(&rt, &["run", "-e.lus", "a.csv"])?;
     run_usage(&rt, &["run", "e.lus", "--main"])?;
     run_usage(&rt, &["run", "e.lus", "a.csv", "b"])?;
+    run_usage(&rt, &["run", "e.lus", "a.csv", "--length", "5"])?;
+    run_usage(&rt, &["runs", "e.lus", "a.csv"])?;
+    run_usage(&rt, &["score", "e.lus"])?;
+    run_usage(&rt, &["score", "e.lus", "-a.csv"])?;
+    run_usage(&rt, &["score", "e.lus", "a.csv", "--length"])?;
+    run_usage(&rt, &["score", "e.lus", "a.csv", "--main", "5"])?;
+    run_usage(&rt, &["score", "--length", "5", "e.lus", "a.csv"])?;
+    run_usage(&rt, &["score", "e.lus", "a.csv", "5"])?;
+    run_usage(&rt, &["score", "e.lus", "a.csv", "--length=5"])?;
+    run_usage(&rt, &["score", "e.lus", "a.csv", "--length", "5", "6"])?;
+    run_usage(
+        &rt,
+        &["score", "e.lus", "a.csv", "--length", "5", "--length", "5"],
+    )?;
+    for number in ["", "0", "05", "+5", "5 ", "x", "x0", "65", "70", "100"] {
+        run_usage(&rt, &["score", "e.lus", "a.csv", "--length", number])?;
+    }
     Ok(())
 }
 

@@ -5,7 +5,7 @@ ghost use Rattle.cov_station.specs.Answers.{HasCounts, IsDueOrFault, IsReady, Is
 ghost use Rattle.cov_station.specs.Outcomes.{IsFinished, Outcome};
 ghost use Rattle.cov_station.specs.declared.status.Status.{Status as EndStatus};
 
-use crate::commands::run;
+use crate::commands::perform;
 use crate::refusal::{refusal_line, usage_line};
 use crate::status::Status;
 use crate::words::read_words;
@@ -37,7 +37,7 @@ fn answer<S: Store, O: Sink>(alloc: Global, words: &[String], store: &mut S, out
             Ok(line) => finish(out, line.as_slice(), Status::Usage),
             Err(_) => Status::Memory,
         },
-        Some((source, suite)) => match run(alloc, store, source, suite) {
+        Some((command, source, suite)) => match perform(alloc, store, command, source, suite) {
             Ok(text) => finish(out, text.as_slice(), Status::Done),
             Err(why) => match refusal_line(alloc, why, source, suite) {
                 Ok(line) => finish(out, line.as_slice(), why.status()),
@@ -49,12 +49,18 @@ fn answer<S: Store, O: Sink>(alloc: Global, words: &[String], store: &mut S, out
 
 /// Does the command that the words give, over the files of a store, and puts its text.
 ///
-/// The one command is `run SOURCE SUITE`. The steps go in this order, and the first that refuses ends the
-/// call: the words are read (`Usage`), SOURCE is read (`Missing`, `ReadFault`) and taken as a plain program
-/// (`Source`), SUITE is read (`Missing`, `ReadFault`) and taken as a plain suite (`Unreadable`), the text
-/// is made whole and then put (`WriteFault`). A refusal puts its one line. `Limit` and `Refused` don't come
-/// yet. `Memory` can come at any step, and nothing is put then. Time and memory are linear in the bytes of
-/// the files, and time in the program's edges times the suite's instants.
+/// The commands are `run SOURCE SUITE`, `score SOURCE SUITE` and `score SOURCE SUITE --length N`. N is a
+/// number of 1 to 64 in decimals without a leading zero, and 10 where it isn't given; SOURCE and SUITE
+/// don't begin with `-`. The steps go in this order, and the first that refuses ends the call: the words
+/// are read (`Usage`), SOURCE is read (`Missing`, `ReadFault`) and taken as a plain program (`Source`), for
+/// `score` its paths of at most N edges are listed (`Limit`), SUITE is read (`Missing`, `ReadFault`) and
+/// taken as a plain suite (`Unreadable`), the text is made whole and then put (`WriteFault`). A refusal
+/// puts its one line. `Refused` doesn't come yet. `Memory` can come at any step, and nothing is put then.
+///
+/// Time and memory are linear in the files, in the names of the edges and in what is put, and besides:
+/// `run` takes time in the program's edges times the suite's instants. `score` takes that too, the work of
+/// listing the paths, and for each path and test at most the path's length times the test's instants; it
+/// keeps the paths, and of one test at a time the frames, which are edges times instants.
 pub fn station<S: Store, O: Sink>(
     alloc: Global,
     words: &[String],

@@ -89,7 +89,7 @@ adds_append edges near room ss ts old mid new a b = record {
   each = λ e. b.each e ∙ ap (λ r. r ++ filter (leads_on edges near room e) ts) (a.each e) ∙ append_assoc (row_at old e) (filter (leads_on edges near room e) ss) (filter (leads_on edges near room e) ts) ∙ ap (λ r. row_at old e ++ r) (sym (filter-append (leads_on edges near room e) ss ts));
 }
 
-range_more : (n : ℕ) → range_with_len 0 (n + 1) ≡ range_with_len 0 n ++ n ∷ []
+pub range_more : (n : ℕ) → range_with_len 0 (n + 1) ≡ range_with_len 0 n ++ n ∷ []
 range_more n = sym (map-id (range_with_len 0 (n + 1))) ∙ map-range_with_len_more (λ i. i) 0 n n (omega arith) ∙ ap (λ r. r ++ n ∷ []) (map-id (range_with_len 0 n))
 
 -- one port more

@@ -6,3 +6,4 @@ pub mod Members
 pub mod Order
 pub mod Counts
 pub mod Valid
+pub mod Existence

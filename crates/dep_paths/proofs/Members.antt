@@ -46,11 +46,11 @@ pub record IsOpen (net : Parts) (near : List ℕ) (n k : ℕ) (p : Path) : Type 
   pub long : length p.steps ≡ k
   pub close : near_at near (last_of p) ≤ n - 1 - k
 
-follows_push : (edges : List Edge) (e : EdgeId) (ss : List Step) (s : Step) → Follows edges e ss → operand_of edges s ≡ Some (last_edge e ss) → Follows edges e (ss ++ s ∷ [])
+pub follows_push : (edges : List Edge) (e : EdgeId) (ss : List Step) (s : Step) → Follows edges e ss → operand_of edges s ≡ Some (last_edge e ss) → Follows edges e (ss ++ s ∷ [])
 follows_push edges e [] s h reads = (reads, tt)
 follows_push edges e (t ∷ ss) s h reads = (h.0, follows_push edges t.edge ss s h.1 reads)
 
-follows_parts : (edges : List Edge) (e : EdgeId) (ss : List Step) (s : Step) → Follows edges e (ss ++ s ∷ []) → Follows edges e ss × (operand_of edges s ≡ Some (last_edge e ss))
+pub follows_parts : (edges : List Edge) (e : EdgeId) (ss : List Step) (s : Step) → Follows edges e (ss ++ s ∷ []) → Follows edges e ss × (operand_of edges s ≡ Some (last_edge e ss))
 follows_parts edges e [] s h = (tt, h.0)
 follows_parts edges e (t ∷ ss) s h = let k = follows_parts edges t.edge ss s h.1 in ((h.0, k.0), k.1)
 
@@ -74,7 +74,7 @@ Has-first net near n p h =
     let f = Has-filter (is_near near (n - 1)) net.inputs k.0 k.1 in
     subst (IsOpen net near n zero) k.2 (open_start net near n k.0 f.0 f.1)
 
-Has-longer : (rows : ℕ → List Step) (ps : List Path) (q : Path) → Has (longer_paths rows ps) q → (p : Path) × (s : Step) × Has ps p × Has (rows (last_of p).0) s × (pushed p s ≡ q)
+pub Has-longer : (rows : ℕ → List Step) (ps : List Path) (q : Path) → Has (longer_paths rows ps) q → (p : Path) × (s : Step) × Has ps p × Has (rows (last_of p).0) s × (pushed p s ≡ q)
 unfolding longer_paths
 Has-longer rows ps q h =
     let a = Has-flat_map (λ p. map (pushed p) (rows (last_of p).0)) ps q h in
@@ -93,18 +93,22 @@ pub last_inside : (edges : List Edge) (e : EdgeId) (ss : List Step) → e.0 < le
 last_inside edges e [] inside h = inside
 last_inside edges e (s ∷ ss) inside h = last_inside edges s.edge ss (edge_inside edges s e h.0) h.1
 
+-- a path of no step is its start
+pub start_only : (p : Path) → length p.steps ≡ 0 → start_path p.start ≡ p
+unfolding start_path
+start_only p h = ap (λ (ss : List Step). let q : Path = record { start = p.start; steps = ss } in q) (sym (nil_from_length p.steps h))
+
 first_has : (net : Parts) (near : List ℕ) (n : ℕ) (p : Path) → IsOpen net near n zero p → Has (first_level net.inputs near (n - 1)) p
-unfolding first_level is_near start_path
+unfolding first_level is_near
 first_has net near n p h =
     let none : p.steps ≡ [] = nil_from_length p.steps h.long in
-    let is : start_path p.start ≡ p = ap (λ (ss : List Step). let q : Path = record { start = p.start; steps = ss } in q) (sym none) in
     let at : last_of p ≡ p.start = ap (last_edge p.start) none in
     let close : near_at near p.start ≤ n - 1 = omega (arith, h.close, ap (near_at near) at) in
-    subst (Has (map start_path (filter (is_near near (n - 1)) net.inputs))) is
+    subst (Has (map start_path (filter (is_near near (n - 1)) net.inputs))) (start_only p h.long)
     (map_has start_path (filter (is_near near (n - 1)) net.inputs) p.start
     (filter_has (is_near near (n - 1)) net.inputs p.start h.starts (le-leb (near_at near p.start) (n - 1) close)))
 
-longer_has : (rows : ℕ → List Step) (ps : List Path) (p : Path) (s : Step) → Has ps p → Has (rows (last_of p).0) s → Has (longer_paths rows ps) (pushed p s)
+pub longer_has : (rows : ℕ → List Step) (ps : List Path) (p : Path) (s : Step) → Has ps p → Has (rows (last_of p).0) s → Has (longer_paths rows ps) (pushed p s)
 unfolding longer_paths
 longer_has rows ps p s h k = flat_map_has (λ p. map (pushed p) (rows (last_of p).0)) ps p (pushed p s) h (map_has (pushed p) (rows (last_of p).0) s k)
 
@@ -112,11 +116,11 @@ last_split : (s : Step) (ss : List Step) → (init : List Step) × (t : Step) ×
 last_split s [] = ([], s, refl)
 last_split s (t ∷ ss) = let k = last_split t ss in (s ∷ k.0, k.1, ap (λ r. s ∷ r) k.2)
 
-split_last : (ss : List Step) (k : ℕ) → length ss ≡ suc k → (init : List Step) × (t : Step) × (ss ≡ init ++ t ∷ [])
+pub split_last : (ss : List Step) (k : ℕ) → length ss ≡ suc k → (init : List Step) × (t : Step) × (ss ≡ init ++ t ∷ [])
 split_last [] k h = absurd (omega arith)
 split_last (s ∷ ss) k h = last_split s ss
 
-pushed_of : (e : EdgeId) (init : List Step) (s : Step) (ss : List Step) → ss ≡ init ++ s ∷ [] → pushed (record { start = e; steps = init }) s ≡ record { start = e; steps = ss }
+pub pushed_of : (e : EdgeId) (init : List Step) (s : Step) (ss : List Step) → ss ≡ init ++ s ∷ [] → pushed (record { start = e; steps = init }) s ≡ record { start = e; steps = ss }
 unfolding pushed
 pushed_of e init s ss h = ap (λ (r : List Step). let q : Path = record { start = e; steps = r } in q) (sym h)
 

@@ -89,11 +89,11 @@ steps_in_order : (edges : List Edge) (n : ℕ) → InOrder StepBefore (steps_bel
 steps_in_order edges n = InOrder-flat_map (λ i j. i < j) StepBefore (steps_into edges) (range_with_len 0 n)
     (λ i j a b lt ha hb. inl (omega (arith, edge_of_step edges i a ha, edge_of_step edges j b hb))) (into_in_order edges) (InOrder-range 0 n)
 
-readers_in_order : (edges : List Edge) (near : List ℕ) (room e : ℕ) → InOrder StepBefore (readers_of edges near room e)
+pub readers_in_order : (edges : List Edge) (near : List ℕ) (room e : ℕ) → InOrder StepBefore (readers_of edges near room e)
 unfolding readers_of
 readers_in_order edges near room e = InOrder-filter StepBefore (leads_on edges near room e) (steps_below edges (length edges)) (steps_in_order edges (length edges))
 
-longer_in_order : (rows : ℕ → List Step) (ps : List Path) → ((e : ℕ) → InOrder StepBefore (rows e)) → InOrder Beside ps → InOrder Beside (longer_paths rows ps)
+pub longer_in_order : (rows : ℕ → List Step) (ps : List Path) → ((e : ℕ) → InOrder StepBefore (rows e)) → InOrder Beside ps → InOrder Beside (longer_paths rows ps)
 unfolding longer_paths
 longer_in_order rows ps each h = InOrder-flat_map Beside Beside (λ p. map (pushed p) (rows (last_of p).0)) ps
     (λ p q a b lt ha hb. let x = Has-map (pushed p) (rows (last_of p).0) a ha in let y = Has-map (pushed q) (rows (last_of q).0) b hb in
@@ -101,7 +101,7 @@ longer_in_order rows ps each h = InOrder-flat_map Beside Beside (λ p. map (push
     (λ p. InOrder-map StepBefore Beside (pushed p) (rows (last_of p).0) (λ a b lt. pushed_in_order p a b lt) (each (last_of p).0))
     h
 
-start_beside : (i j : EdgeId) → i.0 < j.0 → Beside (start_path i) (start_path j)
+pub start_beside : (i j : EdgeId) → i.0 < j.0 → Beside (start_path i) (start_path j)
 unfolding start_path
 start_beside i j h = record { long = refl; first = inl h }
 

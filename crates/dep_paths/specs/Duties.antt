@@ -10,7 +10,7 @@ use Rattle.dep_paths.specs.declared.path.Path.{Path}
 abbrev pub duties : List Path → List Obligation
 duties paths = map Bc (range_with_len 0 (length paths))
 
--- the length that bounds the paths, the paths, the conditions and the obligations
+-- what a plan holds: the most edges of its paths, the paths, the conditions and the obligations
 pub record Planned : Type 0 where
   pub length : ℕ
   pub paths : List Path

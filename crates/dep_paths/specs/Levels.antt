@@ -1,4 +1,5 @@
--- The lists that are built: of each length, the paths that can be completed.
+-- The lists that are built: of each length, the paths that can be completed. These words are for the proof of
+-- `list`; no public clause cites them.
 use Rattle.std.specs.Prelude.{◌≡◌, ◌<◌, ◌+◌, ◌-◌, ◌&&◌, ◌⊎◌, ℕ, zero, suc, Bool, false, List, [], ◌∷◌, ◌++◌, Option, Some, None, map, length, nat_eq, nat_le, slice_index_or}
 use Rattle.std.specs.List.{flat_map, filter, range_with_len}
 use Rattle.op_network.specs.declared.edge.Edge.{Edge}

@@ -3,3 +3,4 @@ pub mod Paths
 pub mod Duties
 pub mod Near
 pub mod Levels
+pub mod Activation

@@ -8,7 +8,13 @@ pub fn one_list()
     ensures { (net : Parts) (n : ℕ) (ps qs : Seq Path) → IsListOf net n ps → IsListOf net n qs → ps ≡ qs }
 {}
 
-/// The list is longer than any number that there are more paths than.
+/// Each network has such a list, for each length.
+pub fn some_list()
+    ensures { (net : Parts) (n : ℕ) → (ps : Seq Path) × IsListOf net n ps }
+{}
+
+/// Where there are more than `count` different complete paths of at most n edges, the list has more
+/// than `count`.
 pub fn list_is_longer()
     ensures { (count : ℕ) (net : Parts) (n : ℕ) (ps : Seq Path) → IsListOf net n ps → MoreThan count net n → count < length ps }
 {}

@@ -13,7 +13,7 @@ mod rows;
 mod tests;
 mod walk;
 
-pub use law::{list_is_longer, one_list};
+pub use law::{list_is_longer, one_list, some_list};
 pub use path::{Condition, Criterion, Obligation, Path, Pin, PlanFault, Score, Step};
 pub use paths::list;
 pub use planned::Plan;

@@ -6,7 +6,7 @@ use Rattle.op_network.specs.declared.edge.Op.TheVariants.{Input, Const, Id, Not,
 use Rattle.op_network.specs.declared.value.Value.{Value}
 use Rattle.op_network.specs.Operators.{is_true, at_edge}
 
--- of the operator, the port and the frame of the instant
+-- a step through this port of the operator is active at an instant with this frame
 abbrev pub step_condition : Op → ℕ → List Value → Bool
 step_condition (And a b) zero frame = not (is_true (at_edge frame a)) || is_true (at_edge frame b)
 step_condition (And a b) (suc port) frame = not (is_true (at_edge frame b)) || is_true (at_edge frame a)
