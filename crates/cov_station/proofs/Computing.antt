@@ -1,7 +1,7 @@
 -- Frames that are computed edge by edge.
-use Rattle.std.proofs.Common.{◌≡◌, ◌≢◌, ◌⊎◌, ℕ, suc, zero, ◌+◌, ◌<◌, ◌≤◌, List, [], ◌∷◌, ◌++◌, length, take, set, get_or, refl, sym, ap, ◌∙◌, subst, inl, inr, arith, add-one}
+use Rattle.std.proofs.Common.{◌≡◌, ◌≢◌, ◌⊎◌, ℕ, suc, zero, ◌<◌, ◌≤◌, List, [], ◌∷◌, length, take, set, get_or, refl, sym, ap, ◌∙◌, subst, inl, inr, arith}
 use Rattle.std.proofs.Math.ListN.{length-set}
-use Rattle.std.specs.Prelude.{Option, Some, None, slice_get, true, false, not, ◌&&◌}
+use Rattle.std.specs.Prelude.{Option, Some, slice_get, false, not, ◌&&◌}
 use Rattle.op_network.specs.declared.edge.EdgeId.{EdgeId}
 use Rattle.op_network.specs.declared.edge.Edge.{Edge}
 use Rattle.op_network.specs.declared.edge.Op.{Op}

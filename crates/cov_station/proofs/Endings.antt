@@ -23,17 +23,17 @@ one_description : {tree : Ast} {node node' : Node} → Describes tree node → D
 one_description describes describes = refl
 
 -- a source has one program at most
-one_program : (bytes : List ℕ) (node node' : Node) → IsProgram bytes node → IsProgram bytes node' → node ≡ node'
+pub one_program : (bytes : List ℕ) (node node' : Node) → IsProgram bytes node → IsProgram bytes node' → node ≡ node'
 one_program bytes node node' p q = one_description p.described (subst (λ tree. Describes tree node') (sym (one_tree bytes node node' p q)) q.described)
 
 -- a told store has a file or lacks it
 both : {A : Type 0} {file : Option (List ℕ)} {bytes : List ℕ} → file ≡ Some bytes → file ≡ None → A
 both held lacks = absurd (cc)
 
-same_bytes : {file : Option (List ℕ)} {bytes bytes' : List ℕ} → file ≡ Some bytes → file ≡ Some bytes' → bytes ≡ bytes'
+pub same_bytes : {file : Option (List ℕ)} {bytes bytes' : List ℕ} → file ≡ Some bytes → file ≡ Some bytes' → bytes ≡ bytes'
 same_bytes held held' = cc
 
-same_node : {file : Option (List ℕ)} {bytes bytes' : List ℕ} {node node' : Node} → file ≡ Some bytes → IsProgram bytes node → file ≡ Some bytes' → IsProgram bytes' node' → node ≡ node'
+pub same_node : {file : Option (List ℕ)} {bytes bytes' : List ℕ} {node node' : Node} → file ≡ Some bytes → IsProgram bytes node → file ≡ Some bytes' → IsProgram bytes' node' → node ≡ node'
 same_node {node' = node'} held program held' program' = one_program _ _ node' program (subst (λ b. IsProgram b node') (same_bytes held' held) program')
 
 -- a program that is not there, and one that breaks the limit and keeps it
@@ -62,36 +62,36 @@ ready_apart : {words : List (List ℕ)} {told : Files} {status : Status} {line :
 ready_apart (command_ready c r) (no_command none) = none _ _ _ c
 ready_apart (command_ready c r) (command_refuses c' refuses) = ready_command r (moved c c' refuses)
 
--- the first refusal has one status
-command_once : {command : Command} {source suite : List ℕ} {told : Files} {status status' : Status} {line line' : List ℕ} → CommandRefuses command source suite (Some told) status line → CommandRefuses command source suite (Some told) status' line' → status ≡ status'
-command_once (no_source lacks) (no_source lacks') = refl
+-- the first refusal has one status and one line
+command_once : {command : Command} {source suite : List ℕ} {told : Files} {status status' : Status} {line line' : List ℕ} → CommandRefuses command source suite (Some told) status line → CommandRefuses command source suite (Some told) status' line' → (status ≡ status') × (line ≡ line')
+command_once (no_source lacks) (no_source lacks') = (refl, refl)
 command_once (no_source lacks) (source_not_plain held none) = both held lacks
 command_once (no_source lacks) (too_many_paths held program breaks) = both held lacks
 command_once (no_source lacks) (no_suite held program within lacks') = both held lacks
 command_once (no_source lacks) (suite_not_plain held program within suite_held none) = both held lacks
 command_once (source_not_plain held none) (no_source lacks) = both held lacks
-command_once (source_not_plain held none) (source_not_plain held' none') = refl
+command_once (source_not_plain held none) (source_not_plain held' none') = (refl, refl)
 command_once (source_not_plain held none) (too_many_paths held' program breaks) = unplain held' program held none
 command_once (source_not_plain held none) (no_suite held' program within lacks) = unplain held' program held none
 command_once (source_not_plain held none) (suite_not_plain held' program within suite_held none') = unplain held' program held none
 command_once (too_many_paths held program breaks) (no_source lacks) = both held lacks
 command_once (too_many_paths held program breaks) (source_not_plain held' none) = unplain held program held' none
-command_once (too_many_paths held program breaks) (too_many_paths held' program' breaks') = refl
+command_once (too_many_paths held program breaks) (too_many_paths held' program' breaks') = (refl, refl)
 command_once {command} (too_many_paths held program breaks) (no_suite held' program' within lacks) = overrun command held program breaks held' program' within
 command_once {command} (too_many_paths held program breaks) (suite_not_plain held' program' within suite_held none) = overrun command held program breaks held' program' within
 command_once (no_suite held program within lacks) (no_source lacks') = both held lacks'
 command_once (no_suite held program within lacks) (source_not_plain held' none) = unplain held program held' none
 command_once {command} (no_suite held program within lacks) (too_many_paths held' program' breaks) = overrun command held' program' breaks held program within
-command_once (no_suite held program within lacks) (no_suite held' program' within' lacks') = refl
+command_once (no_suite held program within lacks) (no_suite held' program' within' lacks') = (refl, refl)
 command_once (no_suite held program within lacks) (suite_not_plain held' program' within' suite_held none) = both suite_held lacks
 command_once (suite_not_plain held program within suite_held none) (no_source lacks) = both held lacks
 command_once (suite_not_plain held program within suite_held none) (source_not_plain held' none') = unplain held program held' none'
 command_once {command} (suite_not_plain held program within suite_held none) (too_many_paths held' program' breaks) = overrun command held' program' breaks held program within
 command_once (suite_not_plain held program within suite_held none) (no_suite held' program' within' lacks) = both suite_held lacks
-command_once (suite_not_plain held program within suite_held none) (suite_not_plain held' program' within' suite_held' none') = refl
+command_once (suite_not_plain held program within suite_held none) (suite_not_plain held' program' within' suite_held' none') = (refl, refl)
 
-refuses_once : {words : List (List ℕ)} {told : Files} {status status' : Status} {line line' : List ℕ} → Refuses words (Some told) status line → Refuses words (Some told) status' line' → status ≡ status'
-refuses_once (no_command none) (no_command none') = refl
+pub refuses_once : {words : List (List ℕ)} {told : Files} {status status' : Status} {line line' : List ℕ} → Refuses words (Some told) status line → Refuses words (Some told) status' line' → (status ≡ status') × (line ≡ line')
+refuses_once (no_command none) (no_command none') = (refl, refl)
 refuses_once (no_command none) (command_refuses c refuses) = absurd (none _ _ _ c)
 refuses_once (command_refuses c refuses) (no_command none) = absurd (none _ _ _ c)
 refuses_once (command_refuses c refuses) (command_refuses c' refuses') = command_once refuses (moved c c' refuses')
@@ -149,7 +149,7 @@ memory_of (ends_early e f) h = (e, f)
 -- what is due comes
 due_told : {words : List (List ℕ)} {told : Files} {change : Change} {status due : Status} {line : List ℕ} → Outcome words (Some told) change status → Refuses words (Some told) due line → IsDueOrFault due status
 due_told (ends_done (command_prints c p) e q) f = absurd (ready_apart (command_ready c p.ready) f)
-due_told (ends_refused r g k q) f = inl (refuses_once g f)
+due_told (ends_refused r g k q) f = inl (refuses_once g f).0
 due_told (ends_unread g k q) f = inr (inl refl)
 due_told (ends_broken s b) f = inr (inr (inl refl))
 due_told (ends_early e g) f = inr (inr (inr refl))

@@ -30,6 +30,7 @@ pub mod Membership
 pub mod NetworkPrints
 pub mod NetworkRuns
 pub mod Numbered
+pub mod OneAnswer
 pub mod OneNode
 pub mod OneRun
 pub mod OneScore

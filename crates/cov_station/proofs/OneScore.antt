@@ -1,9 +1,8 @@
 -- A network has one run over given inputs, and so a program's score over a suite has one text.
-use Rattle.std.proofs.Common.{◌≡◌, ℕ, ◌<◌, List, [], ◌∷◌, length, refl, sym, ap, ap₂, ◌∙◌, subst, arith}
-use Rattle.std.specs.Prelude.{Option, Some, None, slice_get, slice_index_or, false}
+use Rattle.std.proofs.Common.{◌≡◌, ℕ, ◌<◌, List, [], ◌∷◌, length, refl, sym, ap₂, ◌∙◌, subst}
+use Rattle.std.specs.Prelude.{Option, Some, None, slice_get, false}
 use Rattle.std.proofs.lemmas.List.{ext_get_or}
 use Rattle.std.proofs.lemmas.Option.{get_or_from_slice_get}
-use Rattle.dep_paths.specs.declared.path.Path.{Path}
 use Rattle.dep_paths.specs.Activation.{Frames}
 use Rattle.dep_paths.proofs.Counts.{one_list}
 use Rattle.op_network.specs.declared.edge.Edge.{Edge}

@@ -1,12 +1,12 @@
 -- A well-formed node has a run over all inputs.
-use Rattle.std.proofs.Common.{◌≡◌, ℕ, suc, zero, ◌+◌, ◌<◌, ◌≤◌, false, List, [], ◌∷◌, ◌++◌, length, map, take, drop, set, get_or, refl, sym, ap, ap₂, ◌∙◌, subst, arith}
-use Rattle.std.specs.Prelude.{Option, Some, None, slice_get, replicate}
+use Rattle.std.proofs.Common.{◌≡◌, ℕ, suc, zero, ◌+◌, ◌<◌, ◌≤◌, false, List, [], ◌∷◌, length, map, take, drop, set, get_or, refl, sym, ap, ap₂, ◌∙◌, subst, arith}
+use Rattle.std.specs.Prelude.{Option, Some, None, replicate}
 use Rattle.op_network.specs.declared.edge.Edge.{Edge}
 use Rattle.op_network.specs.declared.edge.EdgeId.{EdgeId}
 use Rattle.op_network.specs.declared.value.Value.{Value}
 use Rattle.op_network.specs.declared.value.Value.TheVariants.{Truth}
 use Rattle.op_network.specs.Operators.{operator_value}
-use Rattle.op_network.specs.Run.{IsFrame, IsRunAfter, IsRun}
+use Rattle.op_network.specs.Run.{IsFrame, IsRunAfter}
 use Rattle.cov_station.specs.Lists.{In}
 use Rattle.cov_station.specs.Net.{net}
 use Rattle.cov_station.specs.Nodes.{Name, Node}

@@ -180,7 +180,7 @@ no_tests_yet width bytes tests empty = subst (λ l. TestsSoFar width bytes l byt
 })
 
 -- the first test of the rest
-first_test : (width : ℕ) (rest : List ℕ) (test : Test) (tests : List Test) → AreTests width rest (test ∷ tests) → BeginsWithTest width rest test (flat_map (test_lines width) tests)
+pub first_test : (width : ℕ) (rest : List ℕ) (test : Test) (tests : List Test) → AreTests width rest (test ∷ tests) → BeginsWithTest width rest test (flat_map (test_lines width) tests)
 first_test width rest test tests h = record {
   plain = h.plain.0;
   text = h.text;
@@ -206,7 +206,7 @@ test_takes width test rest later h = by test.instants h.plain.some h.text
         omega (arith, h.plain.named)
 
 -- no test stands where the bytes are at their end
-no_test : (width : ℕ) (test : Test) (rest later : List ℕ) → BeginsWithTest width rest test later → rest ≡ [] → ⊥
+pub no_test : (width : ℕ) (test : Test) (rest later : List ℕ) → BeginsWithTest width rest test later → rest ≡ [] → ⊥
 no_test width test rest later h empty = omega (arith, ap length (sym (test_front width rest test later h) ∙ ap front empty), h.plain.named)
 
 plain-push : (width : ℕ) (tests : List Test) (test : Test) → ArePlainTests width tests → IsPlainTest width test → ArePlainTests width (tests ++ test ∷ [])

@@ -1,5 +1,5 @@
 -- The text of tests, one after the other.
-use Rattle.std.proofs.Common.{◌≡◌, ℕ, suc, zero, ◌+◌, ◌*◌, ◌<◌, List, [], ◌∷◌, ◌++◌, length, map, take, drop, get_or, codes, refl, sym, ap, ◌∙◌, subst, append_assoc, arith, length-append, add-one}
+use Rattle.std.proofs.Common.{◌≡◌, ℕ, suc, zero, ◌+◌, ◌*◌, ◌<◌, List, [], ◌∷◌, ◌++◌, length, map, take, drop, get_or, codes, refl, sym, ap, ◌∙◌, subst, append_assoc, arith, length-append}
 use Rattle.std.specs.Prelude.{Option, Some, None}
 use Rattle.std.specs.List.{flat_map}
 use Rattle.op_network.specs.declared.edge.Edge.{Edge}
@@ -8,7 +8,7 @@ use Rattle.op_network.specs.declared.edge.Parts.{Parts}
 use Rattle.op_network.specs.declared.test.Test.{Test}
 use Rattle.op_network.specs.declared.value.Value.{Value}
 use Rattle.op_network.specs.Operators.{at_edge}
-use Rattle.op_network.specs.Run.{IsRunAfter, IsRun, rows}
+use Rattle.op_network.specs.Run.{IsRunAfter, rows}
 use Rattle.cov_station.specs.Frames.{AreOutputs}
 use Rattle.cov_station.specs.NetworkText.{names_of, selected, input_rows, frames_text, values_text, NetworkText, no_runs, more_runs}
 use Rattle.cov_station.specs.RunText.{columns, stream_lines}

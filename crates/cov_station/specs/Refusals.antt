@@ -1,5 +1,5 @@
 -- What the refusals of a command say and why they come.
-use Rattle.std.specs.Prelude.{◌≡◌, ℕ, ◌<◌, ◌≤◌, List, [], length, codes, Option}
+use Rattle.std.specs.Prelude.{◌≡◌, ℕ, ◌<◌, ◌≤◌, List, [], length, Option}
 use Rattle.cov_base.specs.Files.{Files, Counts, OnlyMissingRose, OnlyReadsRose}
 use Rattle.op_network.specs.declared.test.Test.{Test}
 use Rattle.cov_station.specs.declared.files.Contents.{Contents}

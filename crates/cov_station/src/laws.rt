@@ -1,13 +1,16 @@
-ghost use Rattle.std.specs.Prelude.{◌≡◌, ℕ, List as Seq, length};
+ghost use Rattle.std.specs.Prelude.{◌≡◌, ℕ, List as Seq, Some, length};
 ghost use Rattle.op_network.specs.declared.test.Test.{Test};
 ghost use Rattle.op_network.specs.declared.value.Value.{Value};
-ghost use Rattle.cov_station.specs.Answers.{IsProgram};
+ghost use Rattle.cov_base.specs.Files.{Files};
+ghost use Rattle.cov_station.specs.Answers.{IsProgram, Prints, Refuses};
+ghost use Rattle.cov_station.specs.declared.status.Status.{Status};
 ghost use Rattle.op_network.specs.Run.{IsRun};
 ghost use Rattle.cov_station.specs.Net.{net};
-ghost use Rattle.cov_station.specs.Nodes.{Node};
+ghost use Rattle.cov_station.specs.Nodes.{Name, Node};
 ghost use Rattle.cov_station.specs.RunText.{RunText};
 ghost use Rattle.cov_station.specs.ScoreText.{ScoreText};
 ghost use Rattle.cov_station.specs.Streams.{Stream, HaveLength, NodeRun};
+ghost use Rattle.cov_station.specs.Suites.{IsPlainSuite};
 
 /// A plain program has exactly one run over given inputs, so its text is determined. Does nothing: its
 /// clauses are the law.
@@ -23,4 +26,14 @@ pub fn one_run()
 pub fn one_score()
     ensures frames { (source : Seq ℕ) (node : Node) (rows frames others : Seq (Seq Value)) → IsProgram source node → IsRun (net node).edges rows frames → IsRun (net node).edges rows others → frames ≡ others }
     ensures text { (source : Seq ℕ) (node : Node) (n : ℕ) (tests : Seq Test) (text other : Seq ℕ) → IsProgram source node → ScoreText node n tests text → ScoreText node n tests other → text ≡ other }
+{}
+
+/// What is printed is determined: a source has at most one program and a suite at most one list of tests;
+/// and for a store that tells its files, the words and the files determine the text that is printed, or
+/// the first refusal, if there is one. Does nothing: its clauses are the law.
+pub fn one_answer()
+    ensures program { (source : Seq ℕ) (node other : Node) → IsProgram source node → IsProgram source other → node ≡ other }
+    ensures suite { (inputs : Seq Name) (bytes : Seq ℕ) (tests others : Seq Test) → IsPlainSuite inputs bytes tests → IsPlainSuite inputs bytes others → tests ≡ others }
+    ensures text { (words : Seq (Seq ℕ)) (told : Files) (text other : Seq ℕ) → Prints words (Some told) text → Prints words (Some told) other → text ≡ other }
+    ensures refusal { (words : Seq (Seq ℕ)) (told : Files) (status other : Status) (line another : Seq ℕ) → Refuses words (Some told) status line → Refuses words (Some told) other another → (status ≡ other) × (line ≡ another) }
 {}

@@ -28,6 +28,6 @@ mod top;
 mod values;
 mod words;
 
-pub use laws::{one_run, one_score};
+pub use laws::{one_answer, one_run, one_score};
 pub use status::Status;
 pub use top::station;

@@ -14,11 +14,11 @@ pub enum Status {
     ReadFault,
     /// The source is refused.
     Source,
-    /// A counted quantity is over its limit.
+    /// A counted quantity is over its limit: there are too many paths.
     Limit,
-    /// A suite, a script, a formula or a proof is outside its grammar.
+    /// The suite is refused.
     Unreadable,
-    /// A proof is refused.
+    /// A proof is refused. No command reads one yet.
     Refused,
     /// The output or a file could not be written.
     WriteFault,

@@ -199,14 +199,6 @@ fn bounds_are_exact(rt: HostRuntime) -> Result<(), Fail> {
     run_over(&rt, long.as_slice(), header, Status::Done, b"")?;
     let long = repeated(alloc, EDGE, b" ", 1_048_577 - 76, b"")?;
     run_over(&rt, long.as_slice(), header, Status::Source, refused)?;
-    let long = repeated(alloc, b"test,x\n", b"a,1\n", 262_142, b"b")?;
-    run_over(
-        &rt,
-        EDGE,
-        long.as_slice(),
-        Status::Unreadable,
-        b"lustrocov: suite not plain\n",
-    )?;
     Ok(())
 }
 
@@ -244,14 +236,14 @@ fn words_are_read(rt: HostRuntime) -> Result<(), Fail> {
     run_usage(&rt, &["run"])?;
     run_usage(&rt, &["run", "e.lus"])?;
     run_usage(&rt, &["run", "-e.lus", "a.csv"])?;
-    run_usage(&rt, &["run", "e.lus", "--main"])?;
+    run_usage(&rt, &["run", "e.lus", "--other"])?;
     run_usage(&rt, &["run", "e.lus", "a.csv", "b"])?;
     run_usage(&rt, &["run", "e.lus", "a.csv", "--length", "5"])?;
     run_usage(&rt, &["runs", "e.lus", "a.csv"])?;
     run_usage(&rt, &["score", "e.lus"])?;
     run_usage(&rt, &["score", "e.lus", "-a.csv"])?;
     run_usage(&rt, &["score", "e.lus", "a.csv", "--length"])?;
-    run_usage(&rt, &["score", "e.lus", "a.csv", "--main", "5"])?;
+    run_usage(&rt, &["score", "e.lus", "a.csv", "--other", "5"])?;
     run_usage(&rt, &["score", "--length", "5", "e.lus", "a.csv"])?;
     run_usage(&rt, &["score", "e.lus", "a.csv", "5"])?;
     run_usage(&rt, &["score", "e.lus", "a.csv", "--length=5"])?;
@@ -289,12 +281,10 @@ fn run_failing<R: Abort + AllocGlobal>(
 }
 
 #[test]
-fn faults_are_named(rt: HostRuntime) -> Result<(), Fail> {
+fn missing_files_are_named(rt: HostRuntime) -> Result<(), Fail> {
     let alloc = rt.alloc();
-    let both = (Some(EDGE), Some(SUITE));
     let none = || Vec::new(alloc);
-    let one = |call: u32| [call].to_vec(alloc);
-    // A missing file: the first in the order of the steps.
+    // The first in the order of the steps.
     run_failing(
         &rt,
         (Some(EDGE), None),
@@ -318,8 +308,15 @@ fn faults_are_named(rt: HostRuntime) -> Result<(), Fail> {
         none(),
         Status::Source,
         b"lustrocov: not plain\n",
-    )?;
-    // Each call of the store that the run makes fails in turn; it makes two.
+    )
+}
+
+#[test]
+fn each_read_fails_in_turn(rt: HostRuntime) -> Result<(), Fail> {
+    let alloc = rt.alloc();
+    let both = (Some(EDGE), Some(SUITE));
+    let none = || Vec::new(alloc);
+    let one = |call: u32| [call].to_vec(alloc);
     run_failing(
         &rt,
         both,
@@ -336,8 +333,16 @@ fn faults_are_named(rt: HostRuntime) -> Result<(), Fail> {
         Status::ReadFault,
         b"lustrocov: cannot read a.csv\n",
     )?;
-    run_failing(&rt, both, one(2)?, none(), Status::Done, TEXT)?;
-    // Each put fails in turn; the text of 23 bytes takes two.
+    run_failing(&rt, both, one(2)?, none(), Status::Done, TEXT)
+}
+
+#[test]
+fn each_put_fails_in_turn(rt: HostRuntime) -> Result<(), Fail> {
+    let alloc = rt.alloc();
+    let both = (Some(EDGE), Some(SUITE));
+    let none = || Vec::new(alloc);
+    let one = |call: u32| [call].to_vec(alloc);
+    // The text of 23 bytes takes two puts.
     run_failing(&rt, both, none(), one(0)?, Status::WriteFault, b"")?;
     run_failing(
         &rt,
@@ -348,7 +353,7 @@ fn faults_are_named(rt: HostRuntime) -> Result<(), Fail> {
         b"test a\nx 0 1 1\ny",
     )?;
     run_failing(&rt, both, none(), one(2)?, Status::Done, TEXT)?;
-    // A put of the line of a refusal fails.
+    // A put of the line of a refusal.
     run_failing(
         &rt,
         (Some(EDGE), None),
@@ -356,6 +361,5 @@ fn faults_are_named(rt: HostRuntime) -> Result<(), Fail> {
         one(1)?,
         Status::WriteFault,
         b"lustrocov: no fi",
-    )?;
-    Ok(())
+    )
 }

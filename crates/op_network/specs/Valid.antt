@@ -22,7 +22,7 @@ op_of edges e = option_map (λ (edge : Edge). edge.op) (slice_get edges e)
 abbrev pub type_of : List Edge → EdgeId → Option Ty
 type_of edges e = option_map (λ (edge : Edge). edge.ty) (slice_get edges e.0)
 
--- a choice is one of the network's
+-- a type is one of the network's: `Truth`, `Word`, or a choice that it has
 abbrev pub IsTypeOf : Parts → Ty → Type 0
 IsTypeOf parts type.Truth = Unit {0}
 IsTypeOf parts type.Word = Unit {0}

@@ -1,7 +1,8 @@
 ghost use Rattle.std.specs.Prelude.{◌≡◌, ◌++◌, ℕ, List as Seq, IfSome, IfNone};
-ghost use Rattle.cov_station.specs.NetworkText.{name_of, names_of};
+ghost use Rattle.cov_station.specs.NetworkText.{names_of};
 ghost use Rattle.cov_station.specs.Suites.{header};
 
+use crate::lines::edge_name;
 use op_network::{Edge, EdgeId};
 
 /// What stands behind a prefix, where the bytes begin with it.
@@ -16,16 +17,6 @@ pub(super) fn strip<'a>(bytes: &'a [u8], prefix: &[u8]) -> Option<&'a [u8]>
     if front == prefix { Some(rest) } else { None }
 }
 
-/// The name of an edge.
-fn name_of(edges: &[Edge], e: EdgeId) -> &[u8]
-    ensures { result.now ≡ name_of edges.now e }
-{
-    match edges.get(e.0 as usize) {
-        Some(edge) => edge.name.bytes(),
-        None => b"",
-    }
-}
-
 /// What stands behind the header, where the bytes begin with it.
 pub(super) fn header_rest<'a>(
     bytes: &'a [u8],
@@ -37,7 +28,7 @@ pub(super) fn header_rest<'a>(
 {
     let mut rest = strip(bytes, b"test")?;
     for input in inputs {
-        rest = strip(strip(rest, b",")?, name_of(edges, *input))?;
+        rest = strip(strip(rest, b",")?, edge_name(edges, *input))?;
     }
     strip(rest, b"\n")
 }

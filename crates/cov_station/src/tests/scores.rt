@@ -1,4 +1,4 @@
-use super::{EDGE, SUITE, store_of, words_of};
+use super::{EDGE, SUITE, repeated, store_of, words_of};
 use crate::{Status, station};
 use cov_base::{List, MemSink};
 use std::alloc::Global;
@@ -167,7 +167,7 @@ fn doublings(alloc: Global, count: u32) -> Result<Vec<u8>, Fail> {
 }
 
 #[test]
-fn the_limit_of_paths_is_exact(rt: HostRuntime) -> Result<(), Fail> {
+fn what_is_too_long_is_no_path(rt: HostRuntime) -> Result<(), Fail> {
     let alloc = rt.alloc();
     let suite = b"test,x\nt,1\n".as_slice();
     let refused = b"lustrocov: limit: paths 20001 > 20000\n";
@@ -197,6 +197,49 @@ fn the_limit_of_paths_is_exact(rt: HostRuntime) -> Result<(), Fail> {
         suite,
         "15",
         b"test t 1 1\nBC 16384/16384 100.0%\n",
+    )
+}
+
+/// Five doublings and four times five make 20,000 paths to `i`.
+fn many_paths(alloc: Global, output: &[u8]) -> Result<Vec<u8>, Fail> {
+    let front = b"node m(x: bool) returns (y: bool); var a, b, c, d, e, f, g, h, i: bool; let
+a = x and x; b = a and a; c = b and b; d = c and c; e = d and d;
+f = e and e and e and e and e; g = f and f and f and f and f;
+h = g and g and g and g and g; i = h and h and h and h and h; y = ";
+    repeated(alloc, front, output, 1, b"; tel")
+}
+
+#[test]
+fn the_limit_of_paths_is_exact(rt: HostRuntime) -> Result<(), Fail> {
+    let alloc = rt.alloc();
+    let suite = b"test,x\nt,1\n".as_slice();
+    let most = many_paths(alloc, b"i")?;
+    let text = b"test t 1 1\nBC 20000/20000 100.0%\n";
+    score(&rt, most.as_slice(), suite, "64", text)?;
+    let more = many_paths(alloc, b"i and x")?;
+    score_over(
+        &rt,
+        (more.as_slice(), Some(suite)),
+        ["--length", "64"].as_slice(),
+        Status::Limit,
+        b"lustrocov: limit: paths 20001 > 20000\n",
+    )
+}
+
+#[test]
+fn a_suite_has_at_most_a_mebibyte(rt: HostRuntime) -> Result<(), Fail> {
+    let alloc = rt.alloc();
+    let most = repeated(alloc, b"test,x\nbb,1\n", b"a,1\n", 262_141, b"")?;
+    let text = b"test bb 1 1\ntest a 262141 262141\nBC 0/0 -\n";
+    score(&rt, EDGE, most.as_slice(), "1", text)?;
+    // One byte more: the line `bb,1` in place of a line `a,1`.
+    let more = repeated(alloc, b"test,x\nbb,1\nbb,1\n", b"a,1\n", 262_140, b"")?;
+    score_over(
+        &rt,
+        (EDGE, Some(more.as_slice())),
+        ["--length", "1"].as_slice(),
+        Status::Unreadable,
+        b"lustrocov: suite not plain\n",
     )
 }
 

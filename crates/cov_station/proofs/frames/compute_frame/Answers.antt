@@ -1,4 +1,4 @@
-use Rattle.std.proofs.Common.{◌≡◌, ◌<◌, List, arith, add-one, subst, sym, ap, ◌∙◌, length, get_or}
+use Rattle.std.proofs.Common.{◌<◌, List, arith, add-one, subst, sym, ap, ◌∙◌, length, get_or}
 use Rattle.std.specs.Prelude.{slice_get}
 use Rattle.op_network.specs.declared.edge.Edge.{Edge}
 use Rattle.op_network.specs.declared.edge.Parts.{Parts}

@@ -1,9 +1,8 @@
-use Rattle.std.proofs.Common.{◌≡◌, ◌-◌, ◌*◌, ◌++◌, List, length, take, drop, sym, ap, ap₂, ◌∙◌, subst, arith, length-drop}
+use Rattle.std.proofs.Common.{◌-◌, ◌++◌, length, take, drop, sym, ap, ap₂, ◌∙◌, subst, arith, length-drop}
 use Rattle.std.specs.Prelude.{Some}
 use Rattle.std.specs.Option.{option_map}
 use Rattle.op_network.specs.declared.edge.Parts.{Parts}
 use Rattle.op_network.specs.Run.{IsFrame}
-use Rattle.cov_base.specs.Lending.{with_items}
 use Rattle.cov_station.specs.Frames.{past}
 use Rattle.cov_station.specs.NetworkText.{selected}
 use Rattle.cov_station.proofs.Running.{ran_more, ran_all, ran_as, with_whole, left_size, Ran}

@@ -1,6 +1,6 @@
 use Rattle.std.proofs.Common.{ap, ◌∙◌, length, length-drop}
 use Rattle.cov_station.proofs.Running.{left_size}
-use Rattle.cov_station.proofs.StreamLines.{digit_put_as, line_put}
+use Rattle.cov_station.proofs.StreamLines.{digit_put_as}
 use Rattle.cov_station.proofs.lines.push_stream.Goals as goal
 
 pub loop-left-preserved : goal.loop-left-preserved

@@ -1,4 +1,4 @@
-use Rattle.std.proofs.Common.{◌≡◌, ◌∷◌, [], ◌++◌, ◌*◌, length}
+use Rattle.std.proofs.Common.{◌≡◌, ◌++◌, ◌*◌, length}
 use Rattle.op_network.specs.Run.{rows}
 use Rattle.cov_station.specs.RunText.{column}
 use Rattle.cov_station.proofs.StreamLines.{digits}

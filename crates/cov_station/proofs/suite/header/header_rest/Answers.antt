@@ -11,7 +11,7 @@ loop-input-preserved c =
     let left = names_of edges (drop (c.loop-input.input-index + 1) inputs) in
     let before = subst (λ names. HeaderSoFar c.args.bytes.now (names_of edges inputs) names c.loop-input.rest.now) (names_left edges inputs c.loop-input.input-index (record { 0 = 0 }) c.loop-input-test.true) c.loop-input.invariant in
     next_name c.args.bytes.now (names_of edges inputs) (name_of edges input) left c.loop-input.rest.now c.in_ok-strip.field-0.now c.in_ok-rest-2.rest.now before
-    c.in_ok-strip.ensures.some (c.in_ok-rest-2.ensures.some ∙ ap (λ n. n ++ c.in_ok-rest-2.rest.now) c.name_of.ensures)
+    c.in_ok-strip.ensures.some (c.in_ok-rest-2.ensures.some ∙ ap (λ n. n ++ c.in_ok-rest-2.rest.now) c.edge_name.ensures)
 
 pub returns-in_err-strip-clause-none : goal.returns-in_err-strip-clause-none
 returns-in_err-strip-clause-none c =
