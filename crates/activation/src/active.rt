@@ -4,7 +4,7 @@ ghost use Rattle.dep_paths.specs.Activation.{enters, is_active as active_by, is_
 
 use crate::frames::{has_truth, values_at};
 use dep_paths::{Path, Pin, Step};
-use op_network::{Edge, EdgeId, Frame, Op, step_condition};
+use op_network::{Edge, EdgeId, Form, Frame, Op, step_condition};
 
 /// Whether the edge at a place of a path has the value at `t` that the pin asks there. In constant
 /// time.
@@ -23,12 +23,10 @@ fn allows(pin: Option<Pin>, place: usize, e: EdgeId, frames: &[Frame], t: u32) -
 fn before_step(op: Op, port: u8, frames: &[Frame], t: u32) -> Option<u32>
     ensures { (shorter : ℕ → Bool) → passes op port frames.now shorter t ≡ option_map_or shorter result false }
 {
-    match op {
-        Op::Arrow(_, _) => ((port == 0) == (t == 0)).then_some(t),
-        Op::Pre(_) => t.checked_sub(1),
-        Op::Input(_) | Op::Const(_) | Op::Id(_) | Op::Not(_) | Op::And(_, _) => {
-            step_condition(op, port, values_at(frames, t)).then_some(t)
-        }
+    match op.form() {
+        Form::Arrow(_, _) => ((port == 0) == (t == 0)).then_some(t),
+        Form::Pre(_) => t.checked_sub(1),
+        _ => step_condition(op, port, values_at(frames, t)).then_some(t),
     }
 }
 

@@ -82,7 +82,7 @@ fn frames_of(alloc: Global, rows: &[&[u8]]) -> Result<List<Frame>, Fail> {
 }
 
 /// The frames of `y = false -> x and not pre x` at x = 0, 1, 1.
-fn detected(alloc: Global) -> Result<List<Frame>, Fail> {
+fn frames_of_edge_detector(alloc: Global) -> Result<List<Frame>, Fail> {
     let rows = [
         [0, 0, 0, 0, 1, 0].as_slice(),
         [1, 1, 0, 1, 1, 0].as_slice(),
@@ -92,7 +92,7 @@ fn detected(alloc: Global) -> Result<List<Frame>, Fail> {
 }
 
 /// The frames of `y = pre pre x` at x = 1, 0, 0, 1.
-fn delayed(alloc: Global) -> Result<List<Frame>, Fail> {
+fn frames_of_two_delays(alloc: Global) -> Result<List<Frame>, Fail> {
     let rows = [
         [1, 0, 0].as_slice(),
         [0, 0, 1].as_slice(),
@@ -129,7 +129,7 @@ fn the_short_path_asks_the_other_operand(rt: HostRuntime) -> Result<(), Fail> {
         &rt,
         alloc,
         edge_detector(alloc)?,
-        detected(alloc)?,
+        frames_of_edge_detector(alloc)?,
         0,
         &truths,
     )
@@ -143,7 +143,7 @@ fn the_path_through_the_delay_begins_an_instant_before(rt: HostRuntime) -> Resul
         &rt,
         alloc,
         edge_detector(alloc)?,
-        detected(alloc)?,
+        frames_of_edge_detector(alloc)?,
         1,
         &truths,
     )
@@ -153,7 +153,14 @@ fn the_path_through_the_delay_begins_an_instant_before(rt: HostRuntime) -> Resul
 fn two_delays_take_two_instants(rt: HostRuntime) -> Result<(), Fail> {
     let alloc = rt.alloc();
     let truths = [false, false, true, true];
-    expect(&rt, alloc, two_delays(alloc)?, delayed(alloc)?, 0, &truths)
+    expect(
+        &rt,
+        alloc,
+        two_delays(alloc)?,
+        frames_of_two_delays(alloc)?,
+        0,
+        &truths,
+    )
 }
 
 #[test]
@@ -179,7 +186,14 @@ fn the_first_operand_of_an_arrow_counts_at_instant_0(rt: HostRuntime) -> Result<
 fn an_obligation_that_is_not_there_is_not_met(rt: HostRuntime) -> Result<(), Fail> {
     let alloc = rt.alloc();
     let truths = [false, false, false, false];
-    expect(&rt, alloc, two_delays(alloc)?, delayed(alloc)?, 1, &truths)
+    expect(
+        &rt,
+        alloc,
+        two_delays(alloc)?,
+        frames_of_two_delays(alloc)?,
+        1,
+        &truths,
+    )
 }
 
 /// Place 0 of the path is reached two instants back, place 1 one instant back.
@@ -190,7 +204,7 @@ fn a_pin_is_asked_at_the_instant_that_is_reached(rt: HostRuntime) -> Result<(), 
     assert!(rt; parts.valid());
     let net = Network::build(parts);
     let plan = plan(alloc, &net, 5)?;
-    let frames = delayed(alloc)?;
+    let frames = frames_of_two_delays(alloc)?;
     assert_eq!(rt; plan.paths().len(), 1);
     for (t, place, found) in [
         (2, 0, true),
@@ -223,7 +237,7 @@ fn an_elementary_condition_is_the_value_of_the_input(rt: HostRuntime) -> Result<
     assert!(rt; parts.valid());
     let net = Network::build(parts);
     let plan = plan(alloc, &net, 5)?;
-    let frames = delayed(alloc)?;
+    let frames = frames_of_two_delays(alloc)?;
     let edges = net.parts().edges.as_slice();
     for (value, met) in [(None, true), (Some(true), true), (Some(false), false)] {
         let duty = Obligation::Ecc { path: 0, value };

@@ -12,6 +12,7 @@ mod mem_store;
 mod memory;
 mod plan;
 mod sink;
+mod steps;
 mod store;
 #[cfg(test)]
 mod tests;
@@ -24,5 +25,6 @@ pub use mem_sink::MemSink;
 pub use mem_store::MemStore;
 pub use memory::Memory;
 pub use sink::{Sink, SinkFailed, put_all};
+pub use steps::Steps;
 pub use store::{Store, StoreFault};
 pub use text::Text;

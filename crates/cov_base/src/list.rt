@@ -1,4 +1,4 @@
-ghost use Rattle.std.specs.Prelude.{◌≡◌, ◌≤◌, ◌↔◌, [], ◌∷◌, ◌++◌, length, take, IfErr, OnOk, OnErr, IsTrue};
+ghost use Rattle.std.specs.Prelude.{◌≡◌, ◌≤◌, [], ◌∷◌, ◌++◌, length, take, IfErr, OnOk, OnErr};
 ghost use Rattle.std.specs.Borrow.{sem, Lends, Array};
 ghost use Rattle.cov_base.specs.contracts.list.List.{the_row};
 ghost use Rattle.cov_base.specs.Lending.{with_items};
@@ -71,13 +71,6 @@ impl<T> List<T> {
         self.items.len()
     }
 
-    /// Whether there is no item, in constant time.
-    pub fn is_empty(&self) -> bool
-        ensures { IsTrue result ↔ (self.now ≡ []) }
-    {
-        self.items.is_empty()
-    }
-
     /// Adds an item at the end, or gives it back for want of memory. Constant time over many calls.
     pub fn push(&mut self, item: T) -> Result<(), T>
         ensures ok { OnOk result (self.new ≡ self.old ++ item ∷ []) }
@@ -104,6 +97,18 @@ impl<T: Copy> List<T> {
 }
 
 impl<T: Drop> List<T> {
+    /// Adds an item at the end. Answers `Memory` for want of it: the list is then as before, and the item is
+    /// dropped. Constant time over many calls.
+    pub fn add(&mut self, item: T) -> Result<(), Memory>
+        ensures ok { OnOk result (self.new ≡ self.old ++ item ∷ []) }
+        ensures err { OnErr result (self.new ≡ self.old) }
+    {
+        match self.push(item) {
+            Ok(()) => Ok(()),
+            Err(_) => Err(Memory),
+        }
+    }
+
     /// Keeps the first `len` items. The cost is linear in the items that go.
     pub fn cut(&mut self, len: usize)
         requires { len ≤ length self.old }

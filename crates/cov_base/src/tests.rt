@@ -122,7 +122,10 @@ fn a_piece_is_put_whole_or_to_its_fault(rt: HostRuntime) -> Result<(), Fail> {
 fn a_list_changes(rt: HostRuntime) -> Result<(), Fail> {
     let alloc = rt.alloc();
     let mut list = List::new(alloc);
-    assert!(rt; list.is_empty());
+    assert!(rt; list.len() == 0);
+    list.add(1)?;
+    assert_eq!(rt; list.as_slice(), [1].as_slice());
+    list.cut(0);
     for item in [1u8, 2, 3] {
         assert_eq!(rt; list.push(item), Ok(()));
     }

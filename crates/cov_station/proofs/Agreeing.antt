@@ -2,7 +2,7 @@
 use Rattle.std.proofs.Common.{◌≡◌, ℕ, zero, suc, not, ◌&&◌, [], ◌∷◌, length, refl, ap, ap₂, subst}
 use Rattle.op_network.specs.declared.value.Value.{Value}
 use Rattle.op_network.specs.declared.value.Value.TheVariants.{Truth}
-use Rattle.op_network.specs.Operators.{is_true}
+use Rattle.op_network.specs.Values.{is_true}
 use Rattle.cov_station.specs.Streams.{Stream, opposite, conjoined, followed, delayed}
 
 -- equal lengths, and equal values at the first t instants

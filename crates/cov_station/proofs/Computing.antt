@@ -1,23 +1,25 @@
 -- Frames that are computed edge by edge.
-use Rattle.std.proofs.Common.{◌≡◌, ◌≢◌, ◌⊎◌, ℕ, suc, zero, ◌<◌, ◌≤◌, List, [], ◌∷◌, length, take, set, get_or, refl, sym, ap, ◌∙◌, subst, inl, inr, arith}
+use Rattle.std.proofs.Common.{◌≡◌, ◌≢◌, ◌⊎◌, ℕ, suc, zero, ◌<◌, ◌≤◌, List, [], ◌∷◌, length, take, set, get_or, refl, sym, ap, ap₂, ◌∙◌, subst, inl, inr, arith}
 use Rattle.std.proofs.Math.ListN.{length-set}
-use Rattle.std.specs.Prelude.{Option, Some, slice_get, false, not, ◌&&◌}
+use Rattle.std.specs.Prelude.{Option, Some, false, slice_get}
 use Rattle.op_network.specs.declared.edge.EdgeId.{EdgeId}
 use Rattle.op_network.specs.declared.edge.Edge.{Edge}
 use Rattle.op_network.specs.declared.edge.Op.{Op}
-use Rattle.op_network.specs.declared.edge.Op.TheVariants.{Input, Const, Id, Not, And, Arrow, Pre}
+use Rattle.op_network.specs.declared.form.Form.{Form}
+use Rattle.op_network.specs.declared.form.Form.TheVariants.{Input, Const, One, Two, Ite, Arrow, Pre}
 use Rattle.op_network.specs.declared.value.Value.{Value}
 use Rattle.op_network.specs.declared.value.Value.TheVariants.{Truth}
 use Rattle.op_network.specs.declared.value.Ty.{Ty}
-use Rattle.op_network.specs.Operators.{at_edge, operator_value, is_true, followed}
+use Rattle.op_network.specs.Operators.{form_of, at_edge, unary_value, binary_value, if_value, arrow_value, value_by, operator_value}
 use Rattle.op_network.specs.Run.{IsFrame}
 use Rattle.cov_station.specs.Lists.{In, here, there, AreAmong}
-use Rattle.cov_station.specs.Order.{operands_now, IsCausalAfter, IsOrder}
+use Rattle.cov_station.specs.Order.{operands_now_by, operands_now, IsCausalAfter, IsOrder}
+use Rattle.cov_station.specs.Net.{word_width}
 
 -- the edges so far have the values of their operators
 pub record Computed (edges : List Edge) (before : Option (List Value)) (inputs : List Value) (done : List EdgeId) (now : List Value) : Type 0 where
   pub size : length now ≡ length edges
-  pub values : (e : EdgeId) → In e done → (edge : Edge) → slice_get edges e.0 ≡ Some edge → slice_get now e.0 ≡ Some (operator_value edge.op edge.ty before now inputs)
+  pub values : (e : EdgeId) → In e done → (edge : Edge) → slice_get edges e.0 ≡ Some edge → slice_get now e.0 ≡ Some (operator_value word_width edge.op edge.ty before now inputs)
 
 pub in_at : {A : Type 0} (xs : List A) (i : ℕ) (d : A) → i < length xs → In (get_or xs i d) xs
 in_at [] i d lt = absurd (omega arith)
@@ -84,14 +86,17 @@ front_closed edges sequence causal i e h edge found o is =
     more_taken o sequence p.0 i (omega (arith, p.1)) (no_known (causal_at edges [] sequence causal p.0 e p.2 edge there_found o is))
 
 -- an operator's value is that of its operands
-pub value_same : (op : Op) (ty : Ty) (before : Option (List Value)) (now now' inputs : List Value) → ((o : EdgeId) → In o (operands_now op) → at_edge now' o ≡ at_edge now o) → operator_value op ty before now' inputs ≡ operator_value op ty before now inputs
-value_same (Input i) ty before now now' inputs h = refl
-value_same (Const v) ty before now now' inputs h = refl
-value_same (Id a) ty before now now' inputs h = h a here
-value_same (Not a) ty before now now' inputs h = ap (λ v. Truth (not (is_true v))) (h a here)
-value_same (And a b) ty before now now' inputs h = ap (λ v. Truth (is_true v && is_true (at_edge now' b))) (h a here) ∙ ap (λ v. Truth (is_true (at_edge now a) && is_true v)) (h b (there here))
-value_same (Arrow a b) ty before now now' inputs h = ap (λ v. followed before v (at_edge now' b)) (h a here) ∙ ap (λ v. followed before (at_edge now a) v) (h b (there here))
-value_same (Pre a) ty before now now' inputs h = refl
+value_same_by : (form : Form) (ty : Ty) (before : Option (List Value)) (now now' inputs : List Value) → ((o : EdgeId) → In o (operands_now_by form) → at_edge now' o ≡ at_edge now o) → value_by word_width form ty before now' inputs ≡ value_by word_width form ty before now inputs
+value_same_by (Input i) ty before now now' inputs h = refl
+value_same_by (Const v) ty before now now' inputs h = refl
+value_same_by (One o a) ty before now now' inputs h = ap (unary_value word_width o) (h a here)
+value_same_by (Two o a b) ty before now now' inputs h = ap₂ (binary_value word_width o) (h a here) (h b (there here))
+value_same_by (Ite a b c) ty before now now' inputs h = ap₂ (λ v w. if_value v w (at_edge now' c)) (h a here) (h b (there here)) ∙ ap (if_value (at_edge now a) (at_edge now b)) (h c (there (there here)))
+value_same_by (Arrow a b) ty before now now' inputs h = ap₂ (arrow_value before) (h a here) (h b (there here))
+value_same_by (Pre a) ty before now now' inputs h = refl
+
+pub value_same : (op : Op) (ty : Ty) (before : Option (List Value)) (now now' inputs : List Value) → ((o : EdgeId) → In o (operands_now op) → at_edge now' o ≡ at_edge now o) → operator_value word_width op ty before now' inputs ≡ operator_value word_width op ty before now inputs
+value_same op = value_same_by (form_of op)
 
 -- reads of a list in which one place was set
 set_other : (xs : List Value) (i j : ℕ) (v : Value) → i ≢ j → slice_get (set xs j v) i ≡ slice_get xs i
@@ -134,14 +139,14 @@ one_edge : {edge edge' : Edge} {o : Option Edge} → o ≡ Some edge → o ≡ S
 one_edge h k = cc
 
 -- one more edge is computed
-pub next : (edges : List Edge) (before : Option (List Value)) (inputs : List Value) (sequence : List EdgeId) (i : ℕ) (d : EdgeId) (now now' : List Value) → IsOrder edges sequence → i < length sequence → ((edge : Edge) → slice_get edges (get_or sequence i d).0 ≡ Some edge → now' ≡ set now (get_or sequence i d).0 (operator_value edge.op edge.ty before now inputs)) → (edge : Edge) → slice_get edges (get_or sequence i d).0 ≡ Some edge → Computed edges before inputs (take i sequence) now → Computed edges before inputs (take (suc i) sequence) now'
+pub next : (edges : List Edge) (before : Option (List Value)) (inputs : List Value) (sequence : List EdgeId) (i : ℕ) (d : EdgeId) (now now' : List Value) → IsOrder edges sequence → i < length sequence → ((edge : Edge) → slice_get edges (get_or sequence i d).0 ≡ Some edge → now' ≡ set now (get_or sequence i d).0 (operator_value word_width edge.op edge.ty before now inputs)) → (edge : Edge) → slice_get edges (get_or sequence i d).0 ≡ Some edge → Computed edges before inputs (take i sequence) now → Computed edges before inputs (take (suc i) sequence) now'
 next edges before inputs sequence i d now now' order lt sets edge found c = go (decide e (take i sequence))
   where
     e : EdgeId
     e = get_or sequence i d
 
     value : Value
-    value = operator_value edge.op edge.ty before now inputs
+    value = operator_value word_width edge.op edge.ty before now inputs
 
     is_set : now' ≡ set now e.0 value
     is_set = sets edge found
@@ -155,7 +160,7 @@ next edges before inputs sequence i d now now' order lt sets edge found c = go (
         same : now' ≡ now
         same = is_set ∙ set_same now e.0 value (c.values e known edge found)
 
-        old : (f : EdgeId) → In f (take (suc i) sequence) → (other : Edge) → slice_get edges f.0 ≡ Some other → (f ≡ e) ⊎ In f (take i sequence) → slice_get now f.0 ≡ Some (operator_value other.op other.ty before now inputs)
+        old : (f : EdgeId) → In f (take (suc i) sequence) → (other : Edge) → slice_get edges f.0 ≡ Some other → (f ≡ e) ⊎ In f (take i sequence) → slice_get now f.0 ≡ Some (operator_value word_width other.op other.ty before now inputs)
         old f h other is (inl new) = c.values f (subst (λ (x : EdgeId). In x (take i sequence)) (sym new) known) other is
         old f h other is (inr k) = c.values f k other is
     go (inr fresh) = subst (Computed edges before inputs (take (suc i) sequence)) (sym is_set) (record { size = length-set now e.0 value ∙ c.size; values = λ f h other is. new f other is (front_more f sequence i d lt h) })
@@ -163,16 +168,16 @@ next edges before inputs sequence i d now now' order lt sets edge found c = go (
         apart : (o : EdgeId) → In o (take i sequence) → o.0 ≢ e.0
         apart o h same = fresh (let edges : o ≡ e = ap (λ n. record { 0 = n }) same in subst (λ (x : EdgeId). In x (take i sequence)) edges h)
 
-        kept : (op : Op) (ty : Ty) → ((o : EdgeId) → In o (operands_now op) → In o (take i sequence)) → operator_value op ty before (set now e.0 value) inputs ≡ operator_value op ty before now inputs
+        kept : (op : Op) (ty : Ty) → ((o : EdgeId) → In o (operands_now op) → In o (take i sequence)) → operator_value word_width op ty before (set now e.0 value) inputs ≡ operator_value word_width op ty before now inputs
         kept op ty all = value_same op ty before now (set now e.0 value) inputs (λ o h. read_other now o.0 e.0 value (Truth false) (apart o (all o h)))
 
-        new : (f : EdgeId) (other : Edge) → slice_get edges f.0 ≡ Some other → (f ≡ e) ⊎ In f (take i sequence) → slice_get (set now e.0 value) f.0 ≡ Some (operator_value other.op other.ty before (set now e.0 value) inputs)
+        new : (f : EdgeId) (other : Edge) → slice_get edges f.0 ≡ Some other → (f ≡ e) ⊎ In f (take i sequence) → slice_get (set now e.0 value) f.0 ≡ Some (operator_value word_width other.op other.ty before (set now e.0 value) inputs)
         new f other is (inl same) =
             let at_e : slice_get edges e.0 ≡ Some other = subst (λ (x : EdgeId). slice_get edges x.0 ≡ Some other) same is in
             let one : edge ≡ other = one_edge found at_e in
             let all = λ (o : EdgeId) (h : In o (operands_now edge.op)). no_known (causal_at edges [] sequence order.causal i d lt edge found o h) in
-            let k : slice_get (set now e.0 value) e.0 ≡ Some (operator_value edge.op edge.ty before (set now e.0 value) inputs) = set_here now e.0 value within ∙ ap Some (sym (kept edge.op edge.ty all)) in
-            subst (λ (x : EdgeId). slice_get (set now e.0 value) x.0 ≡ Some (operator_value other.op other.ty before (set now e.0 value) inputs)) (sym same) (subst (λ (x : Edge). slice_get (set now e.0 value) e.0 ≡ Some (operator_value x.op x.ty before (set now e.0 value) inputs)) one k)
+            let k : slice_get (set now e.0 value) e.0 ≡ Some (operator_value word_width edge.op edge.ty before (set now e.0 value) inputs) = set_here now e.0 value within ∙ ap Some (sym (kept edge.op edge.ty all)) in
+            subst (λ (x : EdgeId). slice_get (set now e.0 value) x.0 ≡ Some (operator_value word_width other.op other.ty before (set now e.0 value) inputs)) (sym same) (subst (λ (x : Edge). slice_get (set now e.0 value) e.0 ≡ Some (operator_value word_width x.op x.ty before (set now e.0 value) inputs)) one k)
         new f other is (inr k) = set_other now f.0 e.0 value (apart f k) ∙ c.values f k other is ∙ ap Some (sym (kept other.op other.ty (front_closed edges sequence order.causal i f k other is)))
 
 -- all edges are computed
@@ -190,7 +195,7 @@ take_whole : {A : Type 0} (xs : List A) → take (length xs) xs ≡ xs
 take_whole [] = refl
 take_whole (x ∷ xs) = ap (λ l. x ∷ l) (take_whole xs)
 
-pub finished : (edges : List Edge) (before : Option (List Value)) (inputs : List Value) (sequence : List EdgeId) (i : ℕ) (now : List Value) → IsOrder edges sequence → i ≡ length sequence → Computed edges before inputs (take i sequence) now → IsFrame edges before inputs now
+pub finished : (edges : List Edge) (before : Option (List Value)) (inputs : List Value) (sequence : List EdgeId) (i : ℕ) (now : List Value) → IsOrder edges sequence → i ≡ length sequence → Computed edges before inputs (take i sequence) now → IsFrame word_width edges before inputs now
 finished edges before inputs sequence i now order is c = record {
   size = c.size;
   values = λ e edge found. c.values (record { 0 = e }) (subst (λ l. In (record { 0 = e }) l) (sym (ap (λ n. take n sequence) is ∙ take_whole sequence)) (order.full (record { 0 = e }) (found_within edges e edge found))) edge found;

@@ -1,15 +1,17 @@
 -- The operators of a plain node's edges read edges, and all edges are truths.
-use Rattle.std.proofs.Common.{◌≡◌, ℕ, zero, suc, ◌+◌, ◌<◌, ◌≤◌, max, ◌⊎◌, inl, inr, Bool, List, [], ◌∷◌, ◌++◌, length, map, sum, refl, sym, ap, subst, arith, Some, slice_get, option_map}
+use Rattle.std.proofs.Common.{◌≡◌, ℕ, zero, suc, ◌+◌, ◌<◌, ◌≤◌, max, ◌⊎◌, inl, inr, Bool, List, [], ◌∷◌, ◌++◌, length, map, sum, refl, sym, ap, ap₂, subst, arith, Some, slice_get, option_map}
 use Rattle.std.specs.List.{AllByRecursion, flat_map}
 use Rattle.lus_syntax.specs.declared.ast.Expr.{Expr}
 use Rattle.lus_syntax.specs.declared.ast.Item.{Item}
 use Rattle.op_network.specs.declared.edge.Edge.{Edge}
 use Rattle.op_network.specs.declared.edge.Op.{Op}
+use Rattle.op_network.specs.declared.form.Binary.TheVariants as binary
+use Rattle.op_network.specs.declared.form.Unary.TheVariants as unary
 use Rattle.op_network.specs.declared.edge.Op.TheVariants.{Input, Const, Id, Not, And, Arrow, Pre}
 use Rattle.op_network.specs.declared.edge.Parts.{Parts}
 use Rattle.op_network.specs.declared.value.Ty.TheVariants as type
 use Rattle.op_network.specs.declared.value.Value.TheVariants as value
-use Rattle.op_network.specs.Valid.{HasType, IsTypeOf, IsWellTyped}
+use Rattle.op_network.specs.Valid.{HasType, IsTypeOf, IsWellTyped, unary_type_of, binary_type_of, arrow_type_of}
 use Rattle.cov_station.specs.Lists.{In, here}
 use Rattle.cov_station.specs.Net.{Numbering, numbering, Made, made, behind, rooted, edge_of, named_edges, item_edges, input_edges, net}
 use Rattle.cov_station.specs.Nodes.{Name, Node}
@@ -31,6 +33,7 @@ Fits n (Not a) = a.0 < n
 Fits n (And a b) = (a.0 < n) × (b.0 < n)
 Fits n (Arrow a b) = (a.0 < n) × (b.0 < n)
 Fits n (Pre a) = a.0 < n
+Fits n _ = ⊥
 
 record MadeFits (n : ℕ) (m : Made) : Type 0 where
   place : m.place < n
@@ -122,13 +125,13 @@ truth_at (edge ∷ edges) h zero lt = ap Some h.0
 truth_at (edge ∷ edges) h (suc i) lt = truth_at edges h.1 i (omega arith)
 
 typed_op : (parts : Parts) → AreTruths parts.edges → (op : Op) → Fits (length parts.edges) op → IsWellTyped parts op type.Truth
-typed_op parts h (Input i) f = elim f [ ]
 typed_op parts h (Const v) f = subst (λ w. HasType parts w type.Truth) (sym f.1) tt
-typed_op parts h (Id a) f = truth_at parts.edges h a.0 f
-typed_op parts h (Not a) f = (refl, truth_at parts.edges h a.0 f)
-typed_op parts h (And a b) f = (refl, truth_at parts.edges h a.0 f.0, truth_at parts.edges h b.0 f.1)
-typed_op parts h (Arrow a b) f = (truth_at parts.edges h a.0 f.0, truth_at parts.edges h b.0 f.1)
+typed_op parts h (Id a) f = ap (unary_type_of unary.Id) (truth_at parts.edges h a.0 f)
+typed_op parts h (Not a) f = ap (unary_type_of unary.Not) (truth_at parts.edges h a.0 f)
+typed_op parts h (And a b) f = ap₂ (binary_type_of binary.And) (truth_at parts.edges h a.0 f.0) (truth_at parts.edges h b.0 f.1)
+typed_op parts h (Arrow a b) f = ap₂ arrow_type_of (truth_at parts.edges h a.0 f.0) (truth_at parts.edges h b.0 f.1)
 typed_op parts h (Pre a) f = truth_at parts.edges h a.0 f
+typed_op parts h _ f = elim f [ ]
 
 inner_typed : (parts : Parts) → AreTruths parts.edges → (edges : List Edge) → AllByRecursion (IsInner (length parts.edges)) edges → AllByRecursion (λ (edge : Edge). IsWellTyped parts edge.op edge.ty) edges
 inner_typed parts h [] i = tt

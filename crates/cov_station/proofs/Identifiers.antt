@@ -12,9 +12,10 @@ use Rattle.lus_syntax.specs.declared.token.Token.{Token}
 use Rattle.lus_syntax.specs.declared.token.TokenKind.{TokenKind}
 use Rattle.lus_syntax.specs.declared.token.TokenKind.TheVariants.{Name, Number}
 use Rattle.lus_syntax.specs.Cuts.{Cuts, nothing, skip, token}
-use Rattle.lus_syntax.specs.Grammar.{spelling, DerivesNames, last_name, more_names, DerivesGroup, group, DerivesLocals, no_locals, locals, DerivesNode, whole_node, Derives, one_node}
+use Rattle.lus_syntax.specs.PlainGrammar.{DerivesNames, last_name, more_names, DerivesGroup, group, DerivesLocals, no_locals, locals, DerivesNode, whole_node, Derives, one_node}
+use Rattle.lus_syntax.specs.Grammar.{spelling}
 use Rattle.lus_syntax.specs.Plain.{IsPlain}
-use Rattle.lus_syntax.specs.Words.{is_letter, is_part, every, kind_of, name_or, word_of, value_from, sign_of, signed, one_sign, two_signs}
+use Rattle.lus_syntax.specs.Words.{is_letter, is_part, every, kind_of, name_or, word_of, value_from, sign_of, signed}
 use Rattle.cov_station.specs.Nodes.{Node, Describes, describes, names_of, words, variables}
 use Rattle.cov_station.specs.Nodes as nodes
 use Rattle.cov_station.specs.Shapes.{IsIdentifier, AreIdentifiers}
@@ -22,12 +23,6 @@ use Rattle.cov_station.specs.Shapes.{IsIdentifier, AreIdentifiers}
 signed_no_name : (o : Option Symbol) → signed o ≡ Some Name → ⊥
 signed_no_name None h = cc
 signed_no_name (Some s) h = cc
-
-sign_no_name : (bs : List ℕ) → sign_of bs ≡ Some Name → ⊥
-sign_no_name [] h = cc
-sign_no_name (a ∷ []) h = signed_no_name (one_sign a) h
-sign_no_name (a ∷ b ∷ []) h = signed_no_name (two_signs a b) h
-sign_no_name (a ∷ b ∷ c ∷ cs) h = cc
 
 -- only the first case gives a name
 first_case : (letter parts digit digits : Bool) (x other : Option TokenKind) (n : ℕ) → (other ≡ Some Name → ⊥)
@@ -42,7 +37,7 @@ first_case false parts false digits x other n no_other h = absurd (no_other h)
 name_bytes : (bs : List ℕ) → kind_of bs ≡ Some Name → IsIdentifier bs
 name_bytes [] h = absurd (cc)
 name_bytes (b ∷ bs) h =
-    let r = first_case (is_letter b) (every is_part bs) (is_ascii_digit b) (every is_ascii_digit bs) (Some (name_or (word_of (b ∷ bs)))) (sign_of (b ∷ bs)) (value_from 0 (b ∷ bs)) (sign_no_name (b ∷ bs)) h in
+    let r = first_case (is_letter b) (every is_part bs) (is_ascii_digit b) (every is_ascii_digit bs) (Some (name_or (word_of (b ∷ bs)))) (signed (sign_of (b ∷ bs))) (value_from 0 (b ∷ bs)) (signed_no_name (sign_of (b ∷ bs))) h in
     record {
       some = λ e. cc;
       letters = ap (λ l. cond (l || is_ascii_digit b) (every is_part bs) false) r.0 ∙ r.1;

@@ -10,7 +10,7 @@ use Rattle.op_network.specs.declared.test.Test.{Test}
 use Rattle.op_network.specs.declared.value.Value.{Value}
 use Rattle.op_network.specs.Run.{IsRun, rows}
 use Rattle.cov_station.specs.Lists.{In, here, there, AreDistinct}
-use Rattle.cov_station.specs.Net.{Numbering, edge, edge_of, number_items, numbering, made, named_edges, item_edges, input_edges, input_ids, net}
+use Rattle.cov_station.specs.Net.{Numbering, edge, edge_of, number_items, numbering, made, named_edges, item_edges, input_edges, input_ids, net, word_width}
 use Rattle.cov_station.specs.NetworkText.{name_of, names_of, selected, frames_text, NetworkText, no_runs, more_runs}
 use Rattle.cov_station.specs.Nodes.{Name, Node, lefts}
 use Rattle.cov_station.specs.RunText.{columns, stream_lines, test_text, RunText, no_tests, more_tests}
@@ -85,5 +85,5 @@ prints node plain well (more_runs {test = test} {tests = tests} {text = text} fr
     subst (λ line. RunText node (test ∷ tests) (line ++ text)) (sym (same_text node plain well test frames))
     (more_tests (columns 0 node.outputs (map (selected (net node).outputs) frames))
     (node_runs node test.instants (rows (length node.inputs) test.instants test.values) frames plain well (rows_count (length node.inputs) test.instants test.values)
-    (subst (λ width. IsRun (net node).edges (rows width test.instants test.values) frames) (ids_count 0 node.inputs) run))
+    (subst (λ width. IsRun word_width (net node).edges (rows width test.instants test.values) frames) (ids_count 0 node.inputs) run))
     (prints node plain well rest))

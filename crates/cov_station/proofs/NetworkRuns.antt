@@ -9,7 +9,7 @@ use Rattle.op_network.specs.declared.value.Value.{Value}
 use Rattle.op_network.specs.Operators.{at_edge}
 use Rattle.op_network.specs.Run.{IsRun}
 use Rattle.cov_station.specs.Lists.{In, here, there, AreDistinct}
-use Rattle.cov_station.specs.Net.{Numbering, edge, edge_of, number_items, numbering, item_edges, input_edges, net}
+use Rattle.cov_station.specs.Net.{Numbering, edge, edge_of, number_items, numbering, item_edges, input_edges, net, word_width}
 use Rattle.cov_station.specs.NetworkText.{selected}
 use Rattle.cov_station.specs.Nodes.{Name, Node, lefts, variables}
 use Rattle.cov_station.specs.RunText.{column, columns}
@@ -41,7 +41,7 @@ items_hold {edges} {rows} {frames} {n} table bindings ran (plain_items {at = pla
 )
 
 -- the columns of the inputs' edges are the inputs
-pub inputs_columns : (edges : List Edge) (rows frames : List (List Value)) → IsRun edges rows frames → (place : ℕ) (names : List Name) (rest : List Edge) → drop place edges ≡ input_edges place names ++ rest → columns place names frames ≡ columns place names rows
+pub inputs_columns : (edges : List Edge) (rows frames : List (List Value)) → IsRun word_width edges rows frames → (place : ℕ) (names : List Name) (rest : List Edge) → drop place edges ≡ input_edges place names ++ rest → columns place names frames ≡ columns place names rows
 inputs_columns edges rows frames run place [] rest h = refl
 inputs_columns edges rows frames run place (x ∷ names) rest h =
     let has : HasOp edges place _ = record { edge = _; found = drop_head place edges h; operator = refl; truths = refl } in
@@ -80,7 +80,7 @@ items_start node =
     (drop_front 0 (net node).edges (input_edges 0 node.inputs) (item_edges (numbering node) (length node.inputs) node.items) refl)
 
 -- the equations hold of the columns
-columns_hold : (node : Node) (n : ℕ) (rows frames : List (List Value)) → ArePlainItems node.items → IsWellFormed node → length rows ≡ n → IsRun (net node).edges rows frames → AllHold (zip (variables node) (streams node frames)) n node.items
+columns_hold : (node : Node) (n : ℕ) (rows frames : List (List Value)) → ArePlainItems node.items → IsWellFormed node → length rows ≡ n → IsRun word_width (net node).edges rows frames → AllHold (zip (variables node) (streams node frames)) n node.items
 columns_hold node n rows frames plain well count run =
     items_hold (numbering node) (zip (variables node) (streams node frames)) (record { run = run; count = count }) plain (length node.inputs) (items_start node)
     (record { each = λ x i. (all_bound node frames).each x (among _ (variables node) well.declared i) })
@@ -89,7 +89,7 @@ columns_hold node n rows frames plain well count run =
     (record { each = λ x i. skip_inputs 0 node.inputs _ x (λ j. apart node.inputs _ well.distinct j (among _ _ well.only i)) })
 
 -- the run, with the streams as the columns of the variables' edges
-pub columns_run : (node : Node) (n : ℕ) (rows frames : List (List Value)) → ArePlainItems node.items → IsWellFormed node → length rows ≡ n → IsRun (net node).edges rows frames → NodeRun node n (columns 0 node.inputs frames) (picked (numbering node) frames node.outputs)
+pub columns_run : (node : Node) (n : ℕ) (rows frames : List (List Value)) → ArePlainItems node.items → IsWellFormed node → length rows ≡ n → IsRun word_width (net node).edges rows frames → NodeRun node n (columns 0 node.inputs frames) (picked (numbering node) frames node.outputs)
 columns_run node n rows frames plain well count run =
     let size : length frames ≡ n = frame_count (net node).edges None rows frames run ∙ count in
     record {
@@ -102,13 +102,13 @@ columns_run node n rows frames plain well count run =
       equations = columns_hold node n rows frames plain well count run;
     }
 
-pub columns_locals : (node : Node) (n : ℕ) (rows frames : List (List Value)) (plain : ArePlainItems node.items) (well : IsWellFormed node) (count : length rows ≡ n) (run : IsRun (net node).edges rows frames) → (columns_run node n rows frames plain well count run).locals ≡ map (λ x. column (edge_of (numbering node) x) frames) node.locals
+pub columns_locals : (node : Node) (n : ℕ) (rows frames : List (List Value)) (plain : ArePlainItems node.items) (well : IsWellFormed node) (count : length rows ≡ n) (run : IsRun word_width (net node).edges rows frames) → (columns_run node n rows frames plain well count run).locals ≡ map (λ x. column (edge_of (numbering node) x) frames) node.locals
 unfolding columns_run
 columns_locals node n rows frames plain well count run = refl
 
 -- The run of the network over rows of inputs is the node's run on the inputs' streams, and its outputs'
 -- streams are those of the network's outputs.
-pub node_runs : (node : Node) (n : ℕ) (rows frames : List (List Value)) → ArePlainItems node.items → IsWellFormed node → length rows ≡ n → IsRun (net node).edges rows frames → NodeRun node n (columns 0 node.inputs rows) (columns 0 node.outputs (map (selected (net node).outputs) frames))
+pub node_runs : (node : Node) (n : ℕ) (rows frames : List (List Value)) → ArePlainItems node.items → IsWellFormed node → length rows ≡ n → IsRun word_width (net node).edges rows frames → NodeRun node n (columns 0 node.inputs rows) (columns 0 node.outputs (map (selected (net node).outputs) frames))
 node_runs node n rows frames plain well count run =
     subst (λ outs. NodeRun node n (columns 0 node.inputs rows) outs) (sym (selected_columns (numbering node) node.outputs frames))
     (subst (λ ins. NodeRun node n ins (picked (numbering node) frames node.outputs)) (inputs_columns (net node).edges rows frames run 0 node.inputs (item_edges (numbering node) (length node.inputs) node.items) refl)

@@ -13,7 +13,7 @@ use Rattle.op_network.specs.declared.value.Value.TheVariants.{Truth}
 use Rattle.op_network.specs.Operators.{at_edge}
 use Rattle.op_network.specs.Run.{IsFrame, IsRunAfter, IsRun}
 use Rattle.cov_station.specs.Lists.{In, here, there}
-use Rattle.cov_station.specs.Net.{net}
+use Rattle.cov_station.specs.Net.{net, word_width}
 use Rattle.cov_station.specs.Nodes.{Node}
 use Rattle.cov_station.specs.Order.{operands_now, IsCausalAfter, IsOrder}
 use Rattle.cov_station.specs.ScoreText.{ScoreText, score_text}
@@ -21,7 +21,7 @@ use Rattle.cov_station.specs.SourceRuns.{AreSourceRuns}
 use Rattle.cov_station.proofs.Computing.{found_at, value_same}
 use Rattle.cov_station.proofs.Members.{among}
 
-module _ (edges : List Edge) (before : Option (List Value)) (inputs now other : List Value) (a : IsFrame edges before inputs now) (b : IsFrame edges before inputs other) where
+module _ (edges : List Edge) (before : Option (List Value)) (inputs now other : List Value) (a : IsFrame word_width edges before inputs now) (b : IsFrame word_width edges before inputs other) where
   -- an edge has one value where its operands have
   edge_same : (e : EdgeId) (edge : Edge) → slice_get edges e.0 ≡ Some edge → ((o : EdgeId) → In o (operands_now edge.op) → at_edge other o ≡ at_edge now o) → at_edge other e ≡ at_edge now e
   edge_same e edge found h =
@@ -51,7 +51,7 @@ module _ (edges : List Edge) (before : Option (List Value)) (inputs now other : 
       (λ k lt. causal_same [] sequence order.causal order.within (λ o i. absurd (elim i [ ])) (record { 0 = k }) (order.full (record { 0 = k }) (subst (λ n. k < n) b.size lt)))
 
 -- a network with an order of computation has one run
-one_run_after : (edges : List Edge) (sequence : List EdgeId) → IsOrder edges sequence → (before : Option (List Value)) (rows frames others : List (List Value)) → IsRunAfter edges before rows frames → IsRunAfter edges before rows others → others ≡ frames
+one_run_after : (edges : List Edge) (sequence : List EdgeId) → IsOrder edges sequence → (before : Option (List Value)) (rows frames others : List (List Value)) → IsRunAfter word_width edges before rows frames → IsRunAfter word_width edges before rows others → others ≡ frames
 one_run_after edges sequence order before [] [] [] run twin = refl
 one_run_after edges sequence order before [] [] (o ∷ others) run twin = absurd twin
 one_run_after edges sequence order before [] (f ∷ frames) others run twin = absurd run
@@ -59,9 +59,9 @@ one_run_after edges sequence order before (inputs ∷ rows) [] others run twin =
 one_run_after edges sequence order before (inputs ∷ rows) (f ∷ frames) [] run twin = absurd twin
 one_run_after edges sequence order before (inputs ∷ rows) (f ∷ frames) (o ∷ others) run twin =
     let same = frame_same edges before inputs f o run.0 twin.0 sequence order in
-    ap₂ (λ x l. x ∷ l) same (one_run_after edges sequence order (Some f) rows frames others run.1 (subst (λ x. IsRunAfter edges (Some x) rows others) same twin.1))
+    ap₂ (λ x l. x ∷ l) same (one_run_after edges sequence order (Some f) rows frames others run.1 (subst (λ x. IsRunAfter word_width edges (Some x) rows others) same twin.1))
 
-pub one_frames : (edges : List Edge) (sequence : List EdgeId) → IsOrder edges sequence → (rows frames others : List (List Value)) → IsRun edges rows frames → IsRun edges rows others → others ≡ frames
+pub one_frames : (edges : List Edge) (sequence : List EdgeId) → IsOrder edges sequence → (rows frames others : List (List Value)) → IsRun word_width edges rows frames → IsRun word_width edges rows others → others ≡ frames
 one_frames edges sequence order rows frames others run twin = one_run_after edges sequence order None rows frames others run twin
 
 module _ (node : Node) (sequence : List EdgeId) (order : IsOrder (net node).edges sequence) where

@@ -10,7 +10,7 @@ use Rattle.op_network.specs.declared.value.Value.TheVariants.{Truth}
 use Rattle.op_network.specs.Run.{IsRun}
 use Rattle.std.specs.Prelude.{None}
 use Rattle.cov_station.specs.Lists.{In, here}
-use Rattle.cov_station.specs.Net.{Numbering, edge_of, Made, made, behind, rooted}
+use Rattle.cov_station.specs.Net.{Numbering, edge_of, Made, made, behind, rooted, word_width}
 use Rattle.cov_station.specs.Nodes.{Name}
 use Rattle.cov_station.specs.RunText.{column}
 use Rattle.cov_station.specs.Shapes.{IsPlainExpr, plain_name, plain_truth, plain_not, plain_pre, plain_and, plain_arrow}
@@ -23,7 +23,7 @@ use Rattle.cov_station.proofs.Placed.{OpsAt, ops_left, ops_right}
 
 -- a run of a network over n rows
 pub record Ran (edges : List Edge) (rows frames : List (List Value)) (n : ℕ) : Type 0 where
-  pub run : IsRun edges rows frames
+  pub run : IsRun word_width edges rows frames
   pub count : length rows ≡ n
 
 -- these names are bound to the columns of their edges

@@ -9,22 +9,23 @@ use Rattle.op_network.specs.Run.{IsFrame, IsRunAfter, IsRun, rows}
 use Rattle.cov_base.specs.Lending.{with_items}
 use Rattle.cov_station.specs.Frames.{AreOutputs}
 use Rattle.cov_station.specs.NetworkText.{selected, input_rows}
+use Rattle.cov_station.specs.Net.{word_width}
 
 -- What is computed is a front of the run: with each way on over what is left it makes a whole run.
 pub record Ran (parts : Parts) (test : Test) (before : Option (List Value)) (left : ℕ) (rest values : List Value) : Type 0 where
-  pub whole : (more : List (List Value)) → IsRunAfter parts.edges before (rows (length parts.inputs) left rest) more → (frames : List (List Value)) × IsRun parts.edges (input_rows parts test) frames × (flat_map (selected parts.outputs) frames ≡ values ++ flat_map (selected parts.outputs) more)
+  pub whole : (more : List (List Value)) → IsRunAfter word_width parts.edges before (rows (length parts.inputs) left rest) more → (frames : List (List Value)) × IsRun word_width parts.edges (input_rows parts test) frames × (flat_map (selected parts.outputs) frames ≡ values ++ flat_map (selected parts.outputs) more)
 
 pub ran_none : (parts : Parts) (test : Test) → Ran parts test None test.instants test.values []
 ran_none parts test = record { whole = λ more run. (more, run, refl) }
 
-pub ran_more : (parts : Parts) (test : Test) (before : Option (List Value)) (left : ℕ) (rest values frame : List Value) → 0 < left → IsFrame parts.edges before (take (length parts.inputs) rest) frame → Ran parts test before left rest values → Ran parts test (Some frame) (left - 1) (drop (length parts.inputs) rest) (values ++ selected parts.outputs frame)
+pub ran_more : (parts : Parts) (test : Test) (before : Option (List Value)) (left : ℕ) (rest values frame : List Value) → 0 < left → IsFrame word_width parts.edges before (take (length parts.inputs) rest) frame → Ran parts test before left rest values → Ran parts test (Some frame) (left - 1) (drop (length parts.inputs) rest) (values ++ selected parts.outputs frame)
 ran_more parts test before zero rest values frame some is ran = absurd (omega arith)
-ran_more parts test before (suc left) rest values frame some is ran = record { whole = λ more run. go more (subst (λ n. IsRunAfter parts.edges (Some frame) (rows (length parts.inputs) n (drop (length parts.inputs) rest)) more) (let e : suc left - 1 ≡ left = omega arith in e) run) }
+ran_more parts test before (suc left) rest values frame some is ran = record { whole = λ more run. go more (subst (λ n. IsRunAfter word_width parts.edges (Some frame) (rows (length parts.inputs) n (drop (length parts.inputs) rest)) more) (let e : suc left - 1 ≡ left = omega arith in e) run) }
   where
     outs : List Value → List Value
     outs = selected parts.outputs
 
-    go : (more : List (List Value)) → IsRunAfter parts.edges (Some frame) (rows (length parts.inputs) left (drop (length parts.inputs) rest)) more → (frames : List (List Value)) × IsRun parts.edges (input_rows parts test) frames × (flat_map (selected parts.outputs) frames ≡ (values ++ selected parts.outputs frame) ++ flat_map (selected parts.outputs) more)
+    go : (more : List (List Value)) → IsRunAfter word_width parts.edges (Some frame) (rows (length parts.inputs) left (drop (length parts.inputs) rest)) more → (frames : List (List Value)) × IsRun word_width parts.edges (input_rows parts test) frames × (flat_map (selected parts.outputs) frames ≡ (values ++ selected parts.outputs frame) ++ flat_map (selected parts.outputs) more)
     go more run =
         let w = ran.whole (frame ∷ more) (is, run) in
         (w.0, w.1, w.2 ∙ sym (append_assoc values (selected parts.outputs frame) (flat_map (selected parts.outputs) more)))

@@ -17,6 +17,7 @@ use Rattle.cov_station.specs.NetworkText.{input_rows}
 use Rattle.cov_station.specs.ScoreText.{NetworkScore, is_covered, marks, missing_line, missing_lines, score_line, score_of, test_line}
 use Rattle.cov_station.specs.SourceRuns.{AreRuns}
 use Rattle.cov_station.proofs.Marked.{duties_length}
+use Rattle.cov_station.specs.Net.{word_width}
 
 -- the lines of the obligations below o that are not covered
 abbrev pub lines_below : List Edge → List Path → List Bool → ℕ → List ℕ
@@ -48,14 +49,14 @@ scored_none parts paths text covered empty none = record {
   marked = none ∙ ap (λ n. replicate n false) (sym (duties_length paths (duties paths) refl)) ∙ sym (none_covered parts paths (duties paths));
 }
 
-runs_more : (parts : Parts) (tests : List Test) (runs : List Frames) (test : Test) (frames : Frames) → AreRuns parts tests runs → IsRun parts.edges (input_rows parts test) frames → AreRuns parts (tests ++ test ∷ []) (runs ++ frames ∷ [])
+runs_more : (parts : Parts) (tests : List Test) (runs : List Frames) (test : Test) (frames : Frames) → AreRuns parts tests runs → IsRun word_width parts.edges (input_rows parts test) frames → AreRuns parts (tests ++ test ∷ []) (runs ++ frames ∷ [])
 runs_more parts [] [] test frames ran run = (run, tt)
 runs_more parts [] (f ∷ runs) test frames ran run = absurd ran
 runs_more parts (t ∷ tests) [] test frames ran run = absurd ran
 runs_more parts (t ∷ tests) (f ∷ runs) test frames ran run = (ran.0, runs_more parts tests runs test frames ran.1 run)
 
 -- one test more
-pub scored_more : (parts : Parts) (paths : List Path) (tests : List Test) (i : ℕ) (test : Test) (frames : Frames) (text text' : List ℕ) (covered covered' : List Bool) → i < length tests → test ≡ get_or tests i test → IsRun parts.edges (input_rows parts test) frames → text' ≡ text ++ test_line test → ((runs : List Frames) → covered ≡ marks parts paths runs → covered' ≡ marks parts paths (runs ++ frames ∷ [])) → Scored parts paths (take i tests) text covered → Scored parts paths (take (i + 1) tests) text' covered'
+pub scored_more : (parts : Parts) (paths : List Path) (tests : List Test) (i : ℕ) (test : Test) (frames : Frames) (text text' : List ℕ) (covered covered' : List Bool) → i < length tests → test ≡ get_or tests i test → IsRun word_width parts.edges (input_rows parts test) frames → text' ≡ text ++ test_line test → ((runs : List Frames) → covered ≡ marks parts paths runs → covered' ≡ marks parts paths (runs ++ frames ∷ [])) → Scored parts paths (take i tests) text covered → Scored parts paths (take (i + 1) tests) text' covered'
 scored_more parts paths tests i test frames text text' covered covered' lt is run line marks_of scored =
     let front : take i tests ++ test ∷ [] ≡ take (i + 1) tests = ap (λ t. take i tests ++ t ∷ []) is ∙ sym (take_more tests i test lt) in
     subst (λ f. Scored parts paths f text' covered') front

@@ -11,15 +11,16 @@ use Rattle.lus_syntax.specs.declared.ast.BinOp.TheVariants as two
 use Rattle.lus_syntax.specs.declared.ast.Group.{Group}
 use Rattle.lus_syntax.specs.declared.ast.Item.{Item}
 use Rattle.lus_syntax.specs.declared.ast.Spot.{Spot}
-use Rattle.lus_syntax.specs.declared.operators.Binary.{Binary}
-use Rattle.lus_syntax.specs.declared.operators.Unary.{Unary}
+use Rattle.lus_syntax.specs.declared.plain.operators.Binary.{Binary}
+use Rattle.lus_syntax.specs.declared.plain.operators.Unary.{Unary}
 use Rattle.lus_syntax.specs.declared.token.Token.{Token}
 use Rattle.lus_syntax.specs.declared.token.TokenKind.{TokenKind}
 use Rattle.lus_syntax.specs.declared.token.TokenKind.TheVariants.{Word, Sign}
 use Rattle.lus_syntax.specs.declared.token.Keyword.TheVariants as word
 use Rattle.lus_syntax.specs.declared.token.Symbol.TheVariants as sign
-use Rattle.lus_syntax.specs.Grammar.{DerivesExpr, tighter, prefix, to_left, to_right, name, yes, nay, parens, equation, DerivesItems, no_items, more_items, DerivesNames, last_name, more_names, DerivesGroup, group, whole_node, Derives, one_node, node}
-use Rattle.lus_syntax.specs.Operators.{unary, binary}
+use Rattle.lus_syntax.specs.PlainGrammar.{DerivesExpr, tighter, prefix, to_left, to_right, name, yes, nay, parens, equation, DerivesItems, no_items, more_items, DerivesNames, last_name, more_names, DerivesGroup, group, whole_node, Derives, one_node}
+use Rattle.lus_syntax.specs.Grammar.{node}
+use Rattle.lus_syntax.specs.PlainOperators.{unary, binary}
 use Rattle.cov_station.specs.Answers.{IsProgram}
 use Rattle.cov_station.specs.Nodes.{Node, Describes, describes, words, names_of}
 use Rattle.cov_station.specs.Shapes.{IsPlainExpr, plain_name, plain_truth, plain_not, plain_pre, plain_and, plain_arrow, ArePlainItems, no_plain_items, plain_items}

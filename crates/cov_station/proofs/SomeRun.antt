@@ -8,7 +8,7 @@ use Rattle.op_network.specs.declared.value.Value.TheVariants.{Truth}
 use Rattle.op_network.specs.Operators.{operator_value}
 use Rattle.op_network.specs.Run.{IsFrame, IsRunAfter}
 use Rattle.cov_station.specs.Lists.{In}
-use Rattle.cov_station.specs.Net.{net}
+use Rattle.cov_station.specs.Net.{net, word_width}
 use Rattle.cov_station.specs.Nodes.{Name, Node}
 use Rattle.cov_station.specs.NetworkText.{selected}
 use Rattle.cov_station.specs.Order.{IsOrder}
@@ -37,8 +37,8 @@ computed edges before inputs order is (suc i) le =
     let one = computed edges before inputs order is i (omega arith) in
     let lt : i < length order = omega arith in
     let found = found_at edges (get_or order i d).0 (is.within (get_or order i d) (in_at order i d lt)) in
-    let now' = set one.0 (get_or order i d).0 (operator_value found.0.op found.0.ty before one.0 inputs) in
-    (now', next edges before inputs order i d one.0 now' is lt (λ edge same. ap (λ (e : Edge). set one.0 (get_or order i d).0 (operator_value e.op e.ty before one.0 inputs)) (one_edge found.1 same)) found.0 found.1 one.1)
+    let now' = set one.0 (get_or order i d).0 (operator_value word_width found.0.op found.0.ty before one.0 inputs) in
+    (now', next edges before inputs order i d one.0 now' is lt (λ edge same. ap (λ (e : Edge). set one.0 (get_or order i d).0 (operator_value word_width e.op e.ty before one.0 inputs)) (one_edge found.1 same)) found.0 found.1 one.1)
   where
     one_edge : {edge edge' : Edge} {o : Option Edge} → o ≡ Some edge → o ≡ Some edge' → edge ≡ edge'
     one_edge h k = cc
@@ -47,10 +47,10 @@ take_whole : {A : Type 0} (xs : List A) → take (length xs) xs ≡ xs
 take_whole [] = refl
 take_whole (x ∷ xs) = ap (λ l. x ∷ l) (take_whole xs)
 
-some_frame : (edges : List Edge) (before : Option (List Value)) (inputs : List Value) (order : List EdgeId) → IsOrder edges order → (now : List Value) × IsFrame edges before inputs now
+some_frame : (edges : List Edge) (before : Option (List Value)) (inputs : List Value) (order : List EdgeId) → IsOrder edges order → (now : List Value) × IsFrame word_width edges before inputs now
 some_frame edges before inputs order is = let all = computed edges before inputs order is (length order) (omega arith) in (all.0, finished edges before inputs order (length order) all.0 is refl all.1)
 
-some_run : (edges : List Edge) (order : List EdgeId) → IsOrder edges order → (before : Option (List Value)) (rows : List (List Value)) → (frames : List (List Value)) × IsRunAfter edges before rows frames
+some_run : (edges : List Edge) (order : List EdgeId) → IsOrder edges order → (before : Option (List Value)) (rows : List (List Value)) → (frames : List (List Value)) × IsRunAfter word_width edges before rows frames
 some_run edges order is before [] = ([], tt)
 some_run edges order is before (inputs ∷ rows) =
     let frame = some_frame edges before inputs order is in

@@ -7,7 +7,7 @@ use Rattle.dep_paths.specs.Paths.{IsListOf}
 use Rattle.op_network.specs.declared.test.Test.{Test}
 use Rattle.op_network.specs.Run.{IsRun, rows}
 use Rattle.cov_station.specs.Lists.{In, here, there, AreDistinct}
-use Rattle.cov_station.specs.Net.{Numbering, edge_of, number_inputs, number_items, numbering, item_edges, net}
+use Rattle.cov_station.specs.Net.{Numbering, edge_of, number_inputs, number_items, numbering, item_edges, net, word_width}
 use Rattle.cov_station.specs.NetworkText.{input_rows}
 use Rattle.cov_station.specs.Nodes.{Name, Node, variables}
 use Rattle.cov_station.specs.RunText.{column, columns, inputs_of}
@@ -50,10 +50,10 @@ input_columns place (x ∷ names) rest frames distinct =
     (columns_kept frames _ _ names (later_edge x place names (number_inputs (suc place) names ++ rest) distinct.0) ∙ input_columns (suc place) names rest frames distinct.1)
 
 module _ (node : Node) (plain : ArePlainItems node.items) (well : IsWellFormed node) where
-  source_run : (test : Test) (frames : Frames) → IsRun (net node).edges (input_rows (net node) test) frames → IsSourceRun node test frames
+  source_run : (test : Test) (frames : Frames) → IsRun word_width (net node).edges (input_rows (net node) test) frames → IsSourceRun node test frames
   source_run test frames run =
       let count = rows_count (length node.inputs) test.instants test.values in
-      let over : IsRun (net node).edges (rows (length node.inputs) test.instants test.values) frames = subst (λ width. IsRun (net node).edges (rows width test.instants test.values) frames) (ids_count 0 node.inputs) run in
+      let over : IsRun word_width (net node).edges (rows (length node.inputs) test.instants test.values) frames = subst (λ width. IsRun word_width (net node).edges (rows width test.instants test.values) frames) (ids_count 0 node.inputs) run in
       let ins : columns 0 node.inputs frames ≡ inputs_of node test = inputs_columns (net node).edges (rows (length node.inputs) test.instants test.values) frames over 0 node.inputs (item_edges (numbering node) (length node.inputs) node.items) refl in
       let ran = columns_run node test.instants (rows (length node.inputs) test.instants test.values) frames plain well count over in
       record {

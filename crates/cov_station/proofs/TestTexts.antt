@@ -14,13 +14,14 @@ use Rattle.cov_station.specs.NetworkText.{names_of, selected, input_rows, frames
 use Rattle.cov_station.specs.RunText.{columns, stream_lines}
 use Rattle.cov_station.specs.Suites.{IsPlainTest, ArePlainTests}
 use Rattle.cov_station.proofs.StreamLines.{nil}
+use Rattle.cov_station.specs.Net.{word_width}
 
 length-map : {A B : Type 0} (f : A → B) (xs : List A) → length (map f xs) ≡ length xs
 length-map f [] = refl
 length-map f (x ∷ xs) = ap suc (length-map f xs)
 
 -- a run has a frame for each row
-frames_count : (edges : List Edge) (before : Option (List Value)) (table frames : List (List Value)) → IsRunAfter edges before table frames → length frames ≡ length table
+frames_count : (edges : List Edge) (before : Option (List Value)) (table frames : List (List Value)) → IsRunAfter word_width edges before table frames → length frames ≡ length table
 frames_count edges before [] [] run = refl
 frames_count edges before [] (f ∷ frames) run = absurd run
 frames_count edges before (r ∷ table) [] run = absurd run

@@ -8,7 +8,7 @@ use Rattle.lus_syntax.specs.declared.ast.BinOp.{BinOp}
 use Rattle.lus_syntax.specs.declared.ast.BinOp.TheVariants as two
 use Rattle.op_network.specs.declared.value.Ty.TheVariants as type
 use Rattle.op_network.specs.declared.value.Value.TheVariants as value
-use Rattle.op_network.specs.Operators.{default}
+use Rattle.op_network.specs.Values.{default}
 use Rattle.cov_station.specs.Lists.{In, here}
 use Rattle.cov_station.specs.Nodes.{Name as Word}
 use Rattle.cov_station.specs.Streams.{Stream, Bindings, HasStream, has_variable, has_truth, has_not, has_and, has_arrow, has_pre, opposite, conjoined, followed, delayed}

@@ -118,9 +118,13 @@ abbrev pub input_ids : ℕ → List Word → List EdgeId
 input_ids i [] = []
 input_ids i (x ∷ inputs) = edge i ∷ input_ids (suc i) inputs
 
+-- the width of words, of which a plain network has none
+abbrev pub word_width : ℕ
+word_width = 32
+
 abbrev pub net : Node → Parts
 net node = record {
-  width = 32;
+  width = word_width;
   choices = [];
   edges = input_edges 0 node.inputs ++ item_edges (numbering node) (length node.inputs) node.items;
   inputs = input_ids 0 node.inputs;

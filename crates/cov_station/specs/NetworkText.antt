@@ -10,6 +10,7 @@ use Rattle.op_network.specs.Operators.{at_edge}
 use Rattle.op_network.specs.Run.{IsRun, rows}
 use Rattle.cov_station.specs.Nodes.{Name}
 use Rattle.cov_station.specs.RunText.{columns, stream_lines}
+use Rattle.cov_station.specs.Net.{word_width}
 
 abbrev pub name_of : List Edge → EdgeId → Name
 name_of edges e = option_map_or (λ (edge : Edge). edge.name) (slice_get edges e.0) []
@@ -41,6 +42,6 @@ values_text parts test values =
 pub data NetworkText (parts : Parts) : List Test → List ℕ → Type 0 where
   no_runs : NetworkText parts [] []
   more_runs : {test : Test} {tests : List Test} {text : List ℕ} (frames : List (List Value))
-      → IsRun parts.edges (input_rows parts test) frames
+      → IsRun word_width parts.edges (input_rows parts test) frames
       → NetworkText parts tests text
       → NetworkText parts (test ∷ tests) (frames_text parts test frames ++ text)

@@ -3,18 +3,18 @@ use Rattle.std.specs.Prelude.{◌≡◌, ◌<◌, List, [], ◌∷◌, length, S
 use Rattle.op_network.specs.declared.edge.EdgeId.{EdgeId}
 use Rattle.op_network.specs.declared.edge.Edge.{Edge}
 use Rattle.op_network.specs.declared.edge.Op.{Op}
-use Rattle.op_network.specs.declared.edge.Op.TheVariants.{Input, Const, Id, Not, And, Arrow, Pre}
+use Rattle.op_network.specs.declared.form.Form.{Form}
+use Rattle.op_network.specs.declared.form.Form.TheVariants.{Pre}
+use Rattle.op_network.specs.Operators.{form_of, operands_by}
 use Rattle.cov_station.specs.Lists.{In, AreAmong}
 
 -- the operands that are read at the instant itself: all but that of `Pre`
+abbrev pub operands_now_by : Form → List EdgeId
+operands_now_by (Pre a) = []
+operands_now_by form = operands_by form
+
 abbrev pub operands_now : Op → List EdgeId
-operands_now (Input i) = []
-operands_now (Const v) = []
-operands_now (Id a) = a ∷ []
-operands_now (Not a) = a ∷ []
-operands_now (And a b) = a ∷ b ∷ []
-operands_now (Arrow a b) = a ∷ b ∷ []
-operands_now (Pre a) = []
+operands_now op = operands_now_by (form_of op)
 
 -- each edge of the list stands behind the operands that it reads at the instant, or these are known
 abbrev pub IsCausalAfter : List Edge → List EdgeId → List EdgeId → Type 0

@@ -11,7 +11,7 @@ use Rattle.lus_syntax.specs.declared.ast.Spot.{Spot}
 use Rattle.op_network.specs.declared.value.Value.{Value}
 use Rattle.op_network.specs.declared.value.Value.TheVariants.{Truth}
 use Rattle.op_network.specs.declared.value.Ty.TheVariants as type
-use Rattle.op_network.specs.Operators.{default, is_true}
+use Rattle.op_network.specs.Values.{default, is_true}
 use Rattle.cov_station.specs.Lists.{In}
 use Rattle.cov_station.specs.Nodes.{Name, Node, variables}
 

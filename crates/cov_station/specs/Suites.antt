@@ -5,7 +5,7 @@ use Rattle.std.specs.Char.{is_ascii_alphabetic, is_ascii_digit}
 use Rattle.op_network.specs.declared.test.Test.{Test}
 use Rattle.op_network.specs.declared.value.Value.{Value}
 use Rattle.op_network.specs.declared.value.Value.TheVariants.{Truth, Word, Choice}
-use Rattle.op_network.specs.Operators.{is_true}
+use Rattle.op_network.specs.Values.{is_true}
 use Rattle.op_network.specs.Run.{rows}
 use Rattle.cov_station.specs.Lists.{AreDistinct}
 use Rattle.cov_station.specs.Nodes.{Name}

@@ -16,7 +16,7 @@ use op_network::{EdgeId, Parts};
 use std::alloc::Global;
 
 /// The width of words, of which a plain node has none.
-const WIDTH: u32 = 32;
+pub(crate) const WIDTH: u32 = 32;
 
 /// The parts of the network of a node, from the edges of its variables.
 pub(crate) fn parts_of(alloc: Global, node: &Node, table: &NameTable) -> Result<Parts, Memory>

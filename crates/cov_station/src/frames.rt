@@ -5,7 +5,9 @@ ghost use Rattle.op_network.specs.Run.{IsFrame, IsRun};
 ghost use Rattle.cov_station.specs.Frames.{AreOutputs, past};
 ghost use Rattle.cov_station.specs.NetworkText.{input_rows, selected};
 ghost use Rattle.cov_station.specs.Order.{IsOrder};
+ghost use Rattle.cov_station.specs.Net.{word_width};
 
+use crate::build::WIDTH;
 use crate::values::value_at;
 use cov_base::{List, Memory};
 use op_network::{Edge, EdgeId, Frame, Network, Test, Value, operator_value};
@@ -22,11 +24,11 @@ fn compute_edge(
 )
     requires edge { e.0 < length edges.now }
     requires size { length now.old ≡ length edges.now }
-    ensures set { (edge : NetworkEdge) → slice_get edges.now e.0 ≡ Some edge → now.new ≡ slice_set now.old e.0 (value_of edge.op edge.ty (option_map (λ frame. frame.now) before.entry) now.old inputs.now) }
+    ensures set { (edge : NetworkEdge) → slice_get edges.now e.0 ≡ Some edge → now.new ≡ slice_set now.old e.0 (value_of word_width edge.op edge.ty (option_map (λ frame. frame.now) before.entry) now.old inputs.now) }
 {
     let place = e.0 as usize;
     let edge = &edges[place];
-    now[place] = operator_value(edge.op, edge.ty, before, now, inputs);
+    now[place] = operator_value(WIDTH, edge.op, edge.ty, before, now, inputs);
 }
 
 /// Computes the frame of an instant in place: each edge in an order in which its operands are
@@ -40,7 +42,7 @@ fn compute_frame(
 )
     requires order { IsOrder network.now.edges sequence.now }
     requires size { length now.old ≡ length network.now.edges }
-    ensures frame { IsFrame network.now.edges (option_map (λ frame. frame.now) before.entry) inputs.now now.new }
+    ensures frame { IsFrame word_width network.now.edges (option_map (λ frame. frame.now) before.entry) inputs.now now.new }
 {
     let edges = network.parts().edges.as_slice();
     for e in sequence {
@@ -136,7 +138,7 @@ fn frame_after(
     inputs: &[Value],
 ) -> Result<Frame, Memory>
     requires { IsOrder network.now.edges sequence.now }
-    ensures { IfOk result (λ frame. IsFrame network.now.edges (option_map (λ values. values.now) before.entry) inputs.now frame) }
+    ensures { IfOk result (λ frame. IsFrame word_width network.now.edges (option_map (λ values. values.now) before.entry) inputs.now frame) }
 {
     let mut now = blank(alloc, network)?;
     compute_frame(network, sequence, before, inputs, now.items_mut());
@@ -153,7 +155,7 @@ pub(crate) fn frames_over(
 ) -> Result<List<Frame>, Memory>
     requires order { IsOrder network.now.edges sequence.now }
     requires size { length test.now.values ≡ test.now.instants * length network.now.inputs }
-    ensures { IfOk result (λ frames. IsRun network.now.edges (input_rows network.now test.now) frames) }
+    ensures { IfOk result (λ frames. IsRun word_width network.now.edges (input_rows network.now test.now) frames) }
 {
     let width = network.parts().inputs.len();
     let mut frames = List::new(alloc);

@@ -5,7 +5,7 @@ ghost use Rattle.cov_base.specs.Files.{Files};
 ghost use Rattle.cov_station.specs.Answers.{IsProgram, Prints, Refuses};
 ghost use Rattle.cov_station.specs.declared.status.Status.{Status};
 ghost use Rattle.op_network.specs.Run.{IsRun};
-ghost use Rattle.cov_station.specs.Net.{net};
+ghost use Rattle.cov_station.specs.Net.{net, word_width};
 ghost use Rattle.cov_station.specs.Nodes.{Name, Node};
 ghost use Rattle.cov_station.specs.RunText.{RunText};
 ghost use Rattle.cov_station.specs.ScoreText.{ScoreText};
@@ -24,7 +24,7 @@ pub fn one_run()
 /// The network of a plain program has at most one run over given inputs, and so a score has one text. Does
 /// nothing: its clauses are the law.
 pub fn one_score()
-    ensures frames { (source : Seq ℕ) (node : Node) (rows frames others : Seq (Seq Value)) → IsProgram source node → IsRun (net node).edges rows frames → IsRun (net node).edges rows others → frames ≡ others }
+    ensures frames { (source : Seq ℕ) (node : Node) (rows frames others : Seq (Seq Value)) → IsProgram source node → IsRun word_width (net node).edges rows frames → IsRun word_width (net node).edges rows others → frames ≡ others }
     ensures text { (source : Seq ℕ) (node : Node) (n : ℕ) (tests : Seq Test) (text other : Seq ℕ) → IsProgram source node → ScoreText node n tests text → ScoreText node n tests other → text ≡ other }
 {}
 

@@ -10,13 +10,13 @@ use Rattle.op_network.specs.declared.edge.Parts.{Parts}
 use Rattle.dep_paths.specs.declared.path.Step.{Step}
 use Rattle.dep_paths.specs.declared.path.Path.{Path}
 use Rattle.dep_paths.specs.Has.{Has, InOrder}
-use Rattle.dep_paths.specs.Paths.{Follows, operand_of, edge_count, IsComplete, Before, IsListOf}
-use Rattle.dep_paths.specs.Near.{far}
+use Rattle.dep_paths.specs.Paths.{Follows, operand_of, path_length, IsComplete, Before, IsListOf}
 use Rattle.dep_paths.specs.Levels.{readers_of, pushed, start_path, longer_paths, last_of}
 use Rattle.dep_paths.proofs.Table.{same_id}
 use Rattle.dep_paths.proofs.Lists.{Contains-has, has_contains, pairs_in_order, Has-map, map_has, Has-filter, filter_has, range_has, Has-append, Has-append_left, Has-append_right, InOrder-append, InOrder-filter, InOrder-map, InOrder-range, InOrder-weaker}
 use Rattle.dep_paths.proofs.Members.{Has-readers, readers_have, follows_push, follows_parts, Has-longer, longer_has, split_last, pushed_of, start_only}
 use Rattle.dep_paths.proofs.Order.{Beside, start_beside, readers_in_order, longer_in_order}
+use Rattle.dep_paths.specs.declared.limits.TheConstants.{FAR}
 
 -- whether it is one of the edges
 is_one_of : List EdgeId → EdgeId → Bool
@@ -78,9 +78,9 @@ unfolding sorted edge_at
 sorted_in_order es = InOrder-filter (λ (a b : EdgeId). a.0 < b.0) (is_one_of es) (map edge_at (range_with_len 0 (above es)))
     (InOrder-map (λ i j. i < j) (λ (a b : EdgeId). a.0 < b.0) edge_at (range_with_len 0 (above es)) (λ i j lt. lt) (InOrder-range 0 (above es)))
 
--- all readers of an edge: the empty table has the distance `far` everywhere
+-- all readers of an edge: the empty table has the distance `FAR` everywhere
 abbrev all_readers : List Edge → ℕ → List Step
-all_readers edges = readers_of edges [] far
+all_readers edges = readers_of edges [] FAR
 
 -- all paths of k steps from the inputs
 walks : Parts → ℕ → List Path
@@ -90,7 +90,7 @@ walks net (suc k) = longer_paths (all_readers net.edges) (walks net k)
 walks_in_order : (net : Parts) (k : ℕ) → InOrder Beside (walks net k)
 unfolding walks
 walks_in_order net zero = InOrder-map (λ (a b : EdgeId). a.0 < b.0) Beside start_path (sorted net.inputs) start_beside (sorted_in_order net.inputs)
-walks_in_order net (suc k) = longer_in_order (all_readers net.edges) (walks net k) (readers_in_order net.edges [] far) (walks_in_order net k)
+walks_in_order net (suc k) = longer_in_order (all_readers net.edges) (walks net k) (readers_in_order net.edges [] FAR) (walks_in_order net k)
 
 -- a path of k steps from an input
 record IsWalk (net : Parts) (k : ℕ) (p : Path) : Type 0 where
@@ -123,7 +123,7 @@ Has-walks net zero p h =
     subst (IsWalk net zero) is (walk_start net e (Has-sorted net.inputs e has))
 Has-walks net (suc k) q h =
     let (p, s, has, row, is) = Has-longer (all_readers net.edges) (walks net k) q h in
-    let reads = Has-readers net.edges [] far (last_of p) s row in
+    let reads = Has-readers net.edges [] FAR (last_of p) s row in
     subst (IsWalk net (suc k)) is (walk_pushed net k p s (Has-walks net k p has) reads.0)
 
 walks_start : (net : Parts) (p : Path) → IsWalk net zero p → Has (map start_path (sorted net.inputs)) p
@@ -138,7 +138,7 @@ walks_have net (suc k) q h =
     let s = parts.1 in
     let is : pushed p s ≡ q = pushed_of q.start parts.0 s q.steps parts.2 in
     let before = walk_before net k p s (subst (IsWalk net (suc k)) (sym is) h) in
-    let row = readers_have net.edges [] far (last_of p) s before.1 (omega arith) in
+    let row = readers_have net.edges [] FAR (last_of p) s before.1 (omega arith) in
     subst (Has (longer_paths (all_readers net.edges) (walks net k))) is
     (longer_has (all_readers net.edges) (walks net k) p s (walks_have net k p before.0) row)
 
@@ -169,7 +169,7 @@ complete_walk net p h = (
   has_one_of net.outputs (last_of p) (has_contains net.outputs (last_of p) h.ends),
 )
 
-Has-complete_walks : (net : Parts) (n : ℕ) (p : Path) → Has (complete_walks net n) p → IsComplete net p × (edge_count p ≤ n)
+Has-complete_walks : (net : Parts) (n : ℕ) (p : Path) → Has (complete_walks net n) p → IsComplete net p × (path_length p ≤ n)
 unfolding complete_walks
 Has-complete_walks net zero p h = absurd h
 Has-complete_walks net (suc n) p h = elim (Has-append (complete_walks net n) (ended_walks net n) p h) [
@@ -179,7 +179,7 @@ Has-complete_walks net (suc n) p h = elim (Has-append (complete_walks net n) (en
       (walk_complete net n p w f.1, omega (arith, w.long))
 ]
 
-complete_walks_have : (net : Parts) (n : ℕ) (p : Path) → IsComplete net p → edge_count p ≤ n → Has (complete_walks net n) p
+complete_walks_have : (net : Parts) (n : ℕ) (p : Path) → IsComplete net p → path_length p ≤ n → Has (complete_walks net n) p
 unfolding complete_walks
 complete_walks_have net zero p h few = absurd (omega arith)
 complete_walks_have net (suc n) p h few = elim (cases_lt (length p.steps) n) [

@@ -13,7 +13,8 @@ use Rattle.dep_paths.specs.declared.path.Step.{Step}
 use Rattle.dep_paths.specs.declared.path.Path.{Path}
 use Rattle.dep_paths.specs.Paths.{last_edge, operand_of}
 use Rattle.dep_paths.specs.Near.{near_at}
-use Rattle.dep_paths.specs.Levels.{last_of, step_at, steps_through, steps_into, steps_below, leads_on, readers_of, row_at, AddsReaders, AreReaders, pushed, longer_paths}
+use Rattle.dep_paths.specs.Levels.{last_of, step_at, steps_through, steps_into, steps_below, leads_on, readers_of, row_at, AddsReaders, AreReaderRows, pushed, longer_paths}
+use Rattle.dep_paths.specs.declared.limits.TheConstants.{MOST_PATHS, FAR}
 
 pub last-push : (e : EdgeId) (ss : List Step) (s : Step) → last_edge e (ss ++ s ∷ []) ≡ s.edge
 last-push e [] s = refl
@@ -67,7 +68,7 @@ unfolding pushed
 pushed_is p s steps h = rw h refl
 
 near_default : (near : List ℕ) (e : EdgeId) → e.0 < length near → near_at near e ≡ slice_index_or near e.0 0
-near_default near e h = get_or_default near e.0 1000 0 h
+near_default near e h = get_or_default near e.0 FAR 0 h
 
 -- what was read and written is one step more
 pub reader_added : (edges : List Edge) (near : List ℕ) (rows : List (List Step)) (room : ℕ) (a : EdgeId) (s : Step) (d new : List Step) → operand_of edges s ≡ Some a → s.edge.0 < length near → slice_index_or near s.edge.0 0 ≤ room → a.0 < length rows
@@ -111,7 +112,7 @@ empty_row zero e = refl
 empty_row (suc n) zero = refl
 empty_row (suc n) (suc e) = empty_row n e
 
-pub rows_are : (edges : List Edge) (near : List ℕ) (room n : ℕ) (old rows : List (List Step)) → length edges ≤ n → n ≤ length edges → old ≡ replicate (length edges) [] → AddsReaders edges near room (steps_below edges n) old rows → AreReaders edges near room rows
+pub rows_are : (edges : List Edge) (near : List ℕ) (room n : ℕ) (old rows : List (List Step)) → length edges ≤ n → n ≤ length edges → old ≡ replicate (length edges) [] → AddsReaders edges near room (steps_below edges n) old rows → AreReaderRows edges near room rows
 unfolding readers_of
 rows_are edges near room n old rows low high fresh h = let same : n ≡ length edges = omega arith in record {
   each = λ e. h.each e ∙ ap (λ r. r ++ filter (leads_on edges near room e) (steps_below edges n)) (ap (λ r. row_at r e) fresh ∙ empty_row (length edges) e) ∙ ap (λ m. filter (leads_on edges near room e) (steps_below edges m)) same;
@@ -134,7 +135,7 @@ pub longer_step : (rows : ℕ → List Step) (whole_level next new old rest : Li
 longer_step rows whole_level next new old rest p whole is now =
     ap (λ r. r ++ longer_paths rows (reverse rest)) now ∙ append_assoc next (map (pushed p) (rows (last_of p).0)) (longer_paths rows (reverse rest)) ∙ ap (λ r. next ++ r) (sym (longer_cons rows p (reverse rest)) ∙ ap (longer_paths rows) (sym (reverse_push old rest p is))) ∙ whole
 
-pub longer_too_many : (rows : ℕ → List Step) (whole_level next old rest : List Path) (p : Path) → next ++ longer_paths rows (reverse old) ≡ longer_paths rows whole_level → old ≡ rest ++ p ∷ [] → 20000 < length next + length (rows (last_of p).0) → 20000 < length (longer_paths rows whole_level)
+pub longer_too_many : (rows : ℕ → List Step) (whole_level next old rest : List Path) (p : Path) → next ++ longer_paths rows (reverse old) ≡ longer_paths rows whole_level → old ≡ rest ++ p ∷ [] → MOST_PATHS < length next + length (rows (last_of p).0) → MOST_PATHS < length (longer_paths rows whole_level)
 longer_too_many rows whole_level next old rest p whole is many =
     let cut = ap (longer_paths rows) (reverse_push old rest p is) ∙ longer_cons rows p (reverse rest) in
     omega (arith, ap length whole, length-append next (longer_paths rows (reverse old)), ap length cut, length-append (map (pushed p) (rows (last_of p).0)) (longer_paths rows (reverse rest)), length-map (rows (last_of p).0) (pushed p))
@@ -146,7 +147,7 @@ pub longer_all : (rows : ℕ → List Step) (whole_level next rest : List Path) 
 longer_all rows whole_level next rest whole none = sym (append-nil next) ∙ ap (λ r. next ++ r) (sym (longer_none rows)) ∙ ap (λ r. next ++ longer_paths rows (reverse r)) (sym none) ∙ whole
 
 -- what passes of the first items is part of what passes
-pub filter_too_many : {X : Type 0} (q : X → Bool) (old now xs : List X) (i : ℕ) (x : X) → i < length xs → x ≡ slice_index_or xs i x → now ≡ old ++ filter q (take i xs) → 20000 < length (now ++ filter q (x ∷ [])) → 20000 < length (old ++ filter q xs)
+pub filter_too_many : {X : Type 0} (q : X → Bool) (old now xs : List X) (i : ℕ) (x : X) → i < length xs → x ≡ slice_index_or xs i x → now ≡ old ++ filter q (take i xs) → MOST_PATHS < length (now ++ filter q (x ∷ [])) → MOST_PATHS < length (old ++ filter q xs)
 filter_too_many q old now xs i x h is was many =
     let more : filter q (take (i + 1) xs) ≡ filter q (take i xs) ++ filter q (x ∷ []) = ap (filter q) (take_more xs i x h) ∙ filter-append q (take i xs) (get_or xs i x ∷ []) ∙ ap (λ y. filter q (take i xs) ++ filter q (y ∷ [])) (sym is) in
     let all : filter q xs ≡ filter q (take (i + 1) xs) ++ filter q (drop (i + 1) xs) = ap (filter q) (sym (take-append-drop (i + 1) xs)) ∙ filter-append q (take (i + 1) xs) (drop (i + 1) xs) in

@@ -16,6 +16,7 @@ use Rattle.dep_paths.specs.Levels.{step_at, steps_into, steps_below, is_operand,
 use Rattle.dep_paths.proofs.Table.{same_id, edge_inside, port_inside}
 use Rattle.dep_paths.proofs.Growth.{last-push, leads_here}
 use Rattle.dep_paths.proofs.Lists.{Has-map, map_has, Has-filter, filter_has, Has-flat_map, flat_map_has, range_has, Has-append, Has-append_left, Has-append_right}
+use Rattle.dep_paths.specs.declared.limits.TheConstants.{MOST_LENGTH}
 
 operand_is : (o : Option EdgeId) (e : EdgeId) → is_operand o e.0 ≡ true → o ≡ Some e
 operand_is None e h = cc
@@ -125,7 +126,7 @@ unfolding pushed
 pushed_of e init s ss h = ap (λ (r : List Step). let q : Path = record { start = e; steps = r } in q) (sym h)
 
 -- what is open with a step more is open without it
-open_before : (net : Parts) (near : List ℕ) (n k : ℕ) (p : Path) (s : Step) → n ≤ 64 → suc k < n → IsClosed net → IsTable (n - 1) net near → IsOpen net near n (suc k) (pushed p s)
+open_before : (net : Parts) (near : List ℕ) (n k : ℕ) (p : Path) (s : Step) → n ≤ MOST_LENGTH → suc k < n → IsClosed net → IsTable (n - 1) net near → IsOpen net near n (suc k) (pushed p s)
     → IsOpen net near n k p × (operand_of net.edges s ≡ Some (last_of p)) × (near_at near s.edge ≤ n - 2 - k)
 unfolding pushed
 open_before net near n k p s small below closed table h =
@@ -137,7 +138,7 @@ open_before net near n k p s small below closed table h =
     let least = table.knows.least (last_of p) (s ∷ way.0) inside leads (omega (arith, way.2)) in
     (record { starts = h.starts; path = parts.0; long = omega (arith, length_push p.steps s, h.long); close = omega (arith, least, way.2) }, parts.1, close)
 
-pub level_has : (net : Parts) (near : List ℕ) (n k : ℕ) (p : Path) → n ≤ 64 → k < n → IsClosed net → IsTable (n - 1) net near → IsOpen net near n k p → Has (level net near n k) p
+pub level_has : (net : Parts) (near : List ℕ) (n k : ℕ) (p : Path) → n ≤ MOST_LENGTH → k < n → IsClosed net → IsTable (n - 1) net near → IsOpen net near n k p → Has (level net near n k) p
 unfolding level
 level_has net near n zero p small below closed table h = first_has net near n p h
 level_has net near n (suc k) q small below closed table h =
@@ -155,7 +156,7 @@ pub record IsWhole (net : Parts) (p : Path) : Type 0 where
   pub starts : Has net.inputs p.start
   pub leads : Leads net p.start p.steps
 
-open_whole : (net : Parts) (near : List ℕ) (n k : ℕ) (p : Path) → n ≤ 64 → k < n → IsTable (n - 1) net near → IsOpen net near n k p → ends_at near p ≡ true → IsWhole net p
+open_whole : (net : Parts) (near : List ℕ) (n k : ℕ) (p : Path) → n ≤ MOST_LENGTH → k < n → IsTable (n - 1) net near → IsOpen net near n k p → ends_at near p ≡ true → IsWhole net p
 unfolding ends_at
 open_whole net near n k p small below table h ends =
     let zero' = eqb-true (near_at near (last_of p)) 0 ends in
@@ -172,7 +173,7 @@ whole_open net near n k p below closed table h long =
     let least : near_at near (last_of p) ≤ 0 = table.knows.least (last_of p) [] inside here (omega arith) in
     (record { starts = h.starts; path = h.leads.path; long = long; close = omega arith }, eq-eqb (near_at near (last_of p)) 0 (omega arith))
 
-pub Has-complete : (net : Parts) (near : List ℕ) (n k : ℕ) (p : Path) → n ≤ 64 → k ≤ n → IsTable (n - 1) net near → Has (complete_below net near n k) p → IsWhole net p × (length p.steps < k)
+pub Has-complete : (net : Parts) (near : List ℕ) (n k : ℕ) (p : Path) → n ≤ MOST_LENGTH → k ≤ n → IsTable (n - 1) net near → Has (complete_below net near n k) p → IsWhole net p × (length p.steps < k)
 unfolding complete_below
 Has-complete net near n zero p small below table h = absurd h
 Has-complete net near n (suc k) p small below table h = elim (Has-append (complete_below net near n k) (filter (ends_at near) (level net near n k)) p h) [
@@ -182,7 +183,7 @@ Has-complete net near n (suc k) p small below table h = elim (Has-append (comple
       (open_whole net near n k p small (omega arith) table o f.1, omega (arith, o.long))
 ]
 
-pub complete_has : (net : Parts) (near : List ℕ) (n k : ℕ) (p : Path) → n ≤ 64 → k ≤ n → IsClosed net → IsTable (n - 1) net near → IsWhole net p → length p.steps < k → Has (complete_below net near n k) p
+pub complete_has : (net : Parts) (near : List ℕ) (n k : ℕ) (p : Path) → n ≤ MOST_LENGTH → k ≤ n → IsClosed net → IsTable (n - 1) net near → IsWhole net p → length p.steps < k → Has (complete_below net near n k) p
 unfolding complete_below
 complete_has net near n zero p small below closed table h long = absurd (omega arith)
 complete_has net near n (suc k) p small below closed table h long = elim (cases_lt (length p.steps) k) [

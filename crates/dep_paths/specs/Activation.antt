@@ -5,11 +5,11 @@ use Rattle.std.specs.Option.{option_map_or}
 use Rattle.op_network.specs.declared.edge.Edge.{Edge}
 use Rattle.op_network.specs.declared.edge.EdgeId.{EdgeId}
 use Rattle.op_network.specs.declared.edge.Op.{Op}
-use Rattle.op_network.specs.declared.edge.Op.TheVariants.{Input, Const, Id, Not, And, Arrow, Pre}
+use Rattle.op_network.specs.declared.form.Form.{Form}
+use Rattle.op_network.specs.declared.form.Form.TheVariants.{Arrow, Pre}
 use Rattle.op_network.specs.declared.value.Value.{Value}
 use Rattle.op_network.specs.declared.value.Value.TheVariants.{Truth, Word, Choice}
-use Rattle.op_network.specs.Operators.{at_edge}
-use Rattle.op_network.specs.Steps.{step_condition}
+use Rattle.op_network.specs.Operators.{at_edge, form_of, step_by}
 use Rattle.dep_paths.specs.declared.path.Obligation.{Obligation}
 use Rattle.dep_paths.specs.declared.path.Obligation.TheVariants.{Bc, Ecc, Mcc, Omc}
 use Rattle.dep_paths.specs.declared.path.Path.{Path}
@@ -23,20 +23,19 @@ Frames = List (List Value)
 abbrev pub frame_at : Frames → ℕ → List Value
 frame_at frames t = slice_index_or frames t []
 
--- Whether a path is active at t behind a step through this port; `shorter` tells at which instants the path
+-- Whether a path is active at t after a step through this port; `shorter` tells at which instants the path
 -- without the step is. An ordinary port asks the shorter path and the step condition at t; port 0 of `Arrow`
 -- the shorter path at t and t = 0, port 1 the shorter path at t and t >= 1; `Pre` asks t >= 1 and the
 -- shorter path at the instant before.
+abbrev pub passes_by : Form → ℕ → Frames → (ℕ → Bool) → ℕ → Bool
+passes_by (Arrow a b) zero frames shorter t = t == 0 && shorter t
+passes_by (Arrow a b) (suc port) frames shorter t = nat_le 1 t && shorter t
+passes_by (Pre a) port frames shorter zero = false
+passes_by (Pre a) port frames shorter (suc t) = shorter t
+passes_by form port frames shorter t = step_by form port (frame_at frames t) && shorter t
+
 abbrev pub passes : Op → ℕ → Frames → (ℕ → Bool) → ℕ → Bool
-passes (Arrow a b) zero frames shorter t = t == 0 && shorter t
-passes (Arrow a b) (suc port) frames shorter t = nat_le 1 t && shorter t
-passes (Pre a) port frames shorter zero = false
-passes (Pre a) port frames shorter (suc t) = shorter t
-passes (Input i) port frames shorter t = step_condition (Input i) port (frame_at frames t) && shorter t
-passes (Const v) port frames shorter t = step_condition (Const v) port (frame_at frames t) && shorter t
-passes (Id a) port frames shorter t = step_condition (Id a) port (frame_at frames t) && shorter t
-passes (Not a) port frames shorter t = step_condition (Not a) port (frame_at frames t) && shorter t
-passes (And a b) port frames shorter t = step_condition (And a b) port (frame_at frames t) && shorter t
+passes op port frames shorter t = passes_by (form_of op) port frames shorter t
 
 -- whether a value is this truth
 abbrev pub has_truth : Bool → Value → Bool

@@ -10,6 +10,7 @@ use Rattle.dep_paths.specs.declared.path.Step.{Step}
 use Rattle.dep_paths.specs.declared.path.Path.{Path}
 use Rattle.dep_paths.specs.Paths.{last_edge, operand_of}
 use Rattle.dep_paths.specs.Near.{near_at}
+use Rattle.dep_paths.specs.declared.limits.TheConstants.{MOST_PATHS}
 
 abbrev pub last_of : Path → EdgeId
 last_of p = last_edge p.start p.steps
@@ -47,7 +48,7 @@ pub record AddsReaders (edges : List Edge) (near : List ℕ) (room : ℕ) (steps
   pub each : (e : ℕ) → row_at new e ≡ row_at old e ++ filter (leads_on edges near room e) steps
 
 -- the rows are the readers of each edge
-pub record AreReaders (edges : List Edge) (near : List ℕ) (room : ℕ) (rows : List (List Step)) : Type 0 where
+pub record AreReaderRows (edges : List Edge) (near : List ℕ) (room : ℕ) (rows : List (List Step)) : Type 0 where
   pub each : (e : ℕ) → row_at rows e ≡ readers_of edges near room e
 
 unfoldable pub pushed : Path → Step → Path
@@ -83,4 +84,4 @@ complete_below net near n (suc k) = complete_below net near n k ++ filter (ends_
 pub record IsTooLong (net : Parts) (near : List ℕ) (n : ℕ) : Type 0 where
   pub steps : ℕ
   pub below : steps < n
-  pub long : (20000 < length (level net near n steps)) ⊎ (20000 < length (complete_below net near n (steps + 1)))
+  pub long : (MOST_PATHS < length (level net near n steps)) ⊎ (MOST_PATHS < length (complete_below net near n (steps + 1)))

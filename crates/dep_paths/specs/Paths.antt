@@ -22,8 +22,8 @@ last_edge start [] = start
 last_edge start (s ∷ steps) = last_edge s.edge steps
 
 -- how many edges it has, repeats counted
-abbrev pub edge_count : Path → ℕ
-edge_count p = length p.steps + 1
+abbrev pub path_length : Path → ℕ
+path_length p = length p.steps + 1
 
 -- from an input to an output
 pub record IsComplete (net : Parts) (p : Path) : Type 0 where
@@ -46,25 +46,25 @@ StartsBefore p q = (p.start.0 < q.start.0) ⊎ ((p.start.0 ≡ q.start.0) × Ste
 
 -- by length, then by start, then by steps
 abbrev pub Before : Path → Path → Type 0
-Before p q = (edge_count p < edge_count q) ⊎ ((edge_count p ≡ edge_count q) × StartsBefore p q)
+Before p q = (path_length p < path_length q) ⊎ ((path_length p ≡ path_length q) × StartsBefore p q)
 
 -- the complete paths of at most n edges, each once and in order
 pub record IsListOf (net : Parts) (n : ℕ) (ps : List Path) : Type 0 where
-  pub each : (p : Path) → Contains ps p ↔ (IsComplete net p × (edge_count p ≤ n))
+  pub each : (p : Path) → Contains ps p ↔ (IsComplete net p × (path_length p ≤ n))
   pub order : AllPairs Before ps
 
-abbrev pub followed : Path → List Step → Path
-followed p rest = record { start = p.start; steps = p.steps ++ rest }
+abbrev pub extended_by : Path → List Step → Path
+extended_by p rest = record { start = p.start; steps = p.steps ++ rest }
 
 -- some steps more make it a complete path of at most n edges
 pub record CanBeCompleted (net : Parts) (n : ℕ) (p : Path) : Type 0 where
   pub rest : List Step
-  pub complete : IsComplete net (followed p rest)
-  pub within : edge_count (followed p rest) ≤ n
+  pub complete : IsComplete net (extended_by p rest)
+  pub within : path_length (extended_by p rest) ≤ n
 
 -- there are more than so many different complete paths of at most n edges
 pub record MoreThan (count : ℕ) (net : Parts) (n : ℕ) : Type 0 where
   pub paths : List Path
-  pub each : All (λ p. IsComplete net p × (edge_count p ≤ n)) paths
+  pub each : All (λ p. IsComplete net p × (path_length p ≤ n)) paths
   pub different : AllPairs (λ p q. p ≢ q) paths
   pub many : count < length paths

@@ -2,6 +2,7 @@
 #![tactic(auto)]
 
 mod law;
+mod limits;
 mod longer;
 mod near;
 mod path;
@@ -14,6 +15,7 @@ mod tests;
 mod walk;
 
 pub use law::{list_is_longer, one_list, some_list};
+pub use limits::{MOST_LENGTH, MOST_PATHS};
 pub use path::{Condition, Criterion, Obligation, Path, Pin, PlanFault, Score, Step};
 pub use paths::list;
 pub use planned::Plan;

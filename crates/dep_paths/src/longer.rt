@@ -2,13 +2,11 @@ ghost use Rattle.std.specs.Prelude.{◌≡◌, ◌<◌, ◌≤◌, ◌+◌, ◌+
 ghost use Rattle.std.specs.List.{filter};
 ghost use Rattle.dep_paths.specs.Levels.{last_of, row_at, pushed, longer_paths, ends_at};
 
+use crate::limits::MOST_PATHS;
 use crate::path::{Path, Step};
 use cov_base::{List, Memory};
 use op_network::EdgeId;
 use std::alloc::Global;
-
-/// The number of paths that a list may have.
-const MOST: usize = 20_000;
 
 /// Why paths are not listed.
 #[derive(Clone, Copy, Debug, PartialEq, Eq)]
@@ -30,14 +28,14 @@ fn last(path: &Path) -> EdgeId
     }
 }
 
-/// Adds a path, unless there are 20,000.
+/// Adds a path, unless there are `MOST_PATHS`.
 pub(crate) fn add_one(path: Path, paths: &mut List<Path>) -> Result<(), Stop>
-    requires { length paths.old ≤ 20000 }
+    requires { length paths.old ≤ MOST_PATHS }
     ensures ok { OnOk result (paths.new ≡ paths.old ++ path ∷ []) }
-    ensures few { OnOk result (length paths.new ≤ 20000) }
-    ensures many { result ≡ Err Stop.TooMany → length paths.old ≡ 20000 }
+    ensures few { OnOk result (length paths.new ≤ MOST_PATHS) }
+    ensures many { result ≡ Err Stop.TooMany → length paths.old ≡ MOST_PATHS }
 {
-    if paths.len() >= MOST {
+    if paths.len() >= MOST_PATHS {
         return Err(Stop::TooMany);
     }
     match paths.push(path) {
@@ -71,10 +69,10 @@ fn copied(alloc: Global, path: &Path) -> Result<Path, Memory>
 
 /// Adds the path with a step more.
 fn add_extended(path: Path, step: Step, next: &mut List<Path>) -> Result<(), Stop>
-    requires { length next.old ≤ 20000 }
+    requires { length next.old ≤ MOST_PATHS }
     ensures ok { OnOk result (next.new ≡ next.old ++ pushed path step ∷ []) }
-    ensures few { OnOk result (length next.new ≤ 20000) }
-    ensures many { result ≡ Err Stop.TooMany → length next.old ≡ 20000 }
+    ensures few { OnOk result (length next.new ≤ MOST_PATHS) }
+    ensures many { result ≡ Err Stop.TooMany → length next.old ≡ MOST_PATHS }
 {
     match extended(path, step) {
         Ok(longer) => add_one(longer, next),
@@ -84,10 +82,10 @@ fn add_extended(path: Path, step: Step, next: &mut List<Path>) -> Result<(), Sto
 
 /// Adds a copy of the path with a step more.
 fn add_copy(alloc: Global, path: &Path, step: Step, next: &mut List<Path>) -> Result<(), Stop>
-    requires { length next.old ≤ 20000 }
+    requires { length next.old ≤ MOST_PATHS }
     ensures ok { OnOk result (next.new ≡ next.old ++ pushed path.now step ∷ []) }
-    ensures few { OnOk result (length next.new ≤ 20000) }
-    ensures many { result ≡ Err Stop.TooMany → length next.old ≡ 20000 }
+    ensures few { OnOk result (length next.new ≤ MOST_PATHS) }
+    ensures many { result ≡ Err Stop.TooMany → length next.old ≡ MOST_PATHS }
 {
     match copied(alloc, path) {
         Ok(copy) => add_extended(copy, step, next),
@@ -102,10 +100,10 @@ fn add_copies(
     readers: &[Step],
     next: &mut List<Path>,
 ) -> Result<(), Stop>
-    requires { length next.old ≤ 20000 }
+    requires { length next.old ≤ MOST_PATHS }
     ensures ok { OnOk result (next.new ≡ next.old ++ map (pushed path.now) readers.now) }
-    ensures few { OnOk result (length next.new ≤ 20000) }
-    ensures many { result ≡ Err Stop.TooMany → 20000 < length next.old + length readers.now }
+    ensures few { OnOk result (length next.new ≤ MOST_PATHS) }
+    ensures many { result ≡ Err Stop.TooMany → MOST_PATHS < length next.old + length readers.now }
 {
     for step in readers {
         add_copy(alloc, path, *step, next)?;
@@ -120,10 +118,10 @@ fn add_longer(
     readers: &[Step],
     next: &mut List<Path>,
 ) -> Result<(), Stop>
-    requires { length next.old ≤ 20000 }
+    requires { length next.old ≤ MOST_PATHS }
     ensures ok { OnOk result (next.new ≡ next.old ++ map (pushed path) readers.now) }
-    ensures few { OnOk result (length next.new ≤ 20000) }
-    ensures many { result ≡ Err Stop.TooMany → 20000 < length next.old + length readers.now }
+    ensures few { OnOk result (length next.new ≤ MOST_PATHS) }
+    ensures many { result ≡ Err Stop.TooMany → MOST_PATHS < length next.old + length readers.now }
 {
     if readers.is_empty() {
         return Ok(());
@@ -141,10 +139,10 @@ fn add_from(
     rows: &[List<Step>],
     next: &mut List<Path>,
 ) -> Result<(), Stop>
-    requires { length next.old ≤ 20000 }
+    requires { length next.old ≤ MOST_PATHS }
     ensures ok { OnOk result (next.new ≡ next.old ++ map (pushed path) (row_at rows.now (last_of path).0)) }
-    ensures few { OnOk result (length next.new ≤ 20000) }
-    ensures many { result ≡ Err Stop.TooMany → 20000 < length next.old + length (row_at rows.now (last_of path).0) }
+    ensures few { OnOk result (length next.new ≤ MOST_PATHS) }
+    ensures many { result ≡ Err Stop.TooMany → MOST_PATHS < length next.old + length (row_at rows.now (last_of path).0) }
 {
     let at = last(&path).0 as usize;
     if at >= rows.len() {
@@ -160,8 +158,8 @@ pub(crate) fn longer(
     rows: &[List<Step>],
 ) -> Result<List<Path>, Stop>
     ensures ok { IfOk result (λ next. next ≡ longer_paths (row_at rows.now) level) }
-    ensures few { IfOk result (λ next. length next ≤ 20000) }
-    ensures many { result ≡ Err Stop.TooMany → 20000 < length (longer_paths (row_at rows.now) level) }
+    ensures few { IfOk result (λ next. length next ≤ MOST_PATHS) }
+    ensures many { result ≡ Err Stop.TooMany → MOST_PATHS < length (longer_paths (row_at rows.now) level) }
 {
     let mut next = List::new(alloc);
     let mut rest = level.into_vec();
@@ -188,10 +186,10 @@ fn add_if_complete(
     near: &[u32],
     found: &mut List<Path>,
 ) -> Result<(), Stop>
-    requires { length found.old ≤ 20000 }
+    requires { length found.old ≤ MOST_PATHS }
     ensures ok { OnOk result (found.new ≡ found.old ++ filter (ends_at near.now) (path.now ∷ [])) }
-    ensures few { OnOk result (length found.new ≤ 20000) }
-    ensures many { result ≡ Err Stop.TooMany → 20000 < length (found.old ++ filter (ends_at near.now) (path.now ∷ [])) }
+    ensures few { OnOk result (length found.new ≤ MOST_PATHS) }
+    ensures many { result ≡ Err Stop.TooMany → MOST_PATHS < length (found.old ++ filter (ends_at near.now) (path.now ∷ [])) }
 {
     if !is_complete(path, near) {
         return Ok(());
@@ -210,10 +208,10 @@ pub(crate) fn add_complete(
     near: &[u32],
     found: &mut List<Path>,
 ) -> Result<(), Stop>
-    requires { length found.old ≤ 20000 }
+    requires { length found.old ≤ MOST_PATHS }
     ensures ok { OnOk result (found.new ≡ found.old ++ filter (ends_at near.now) level.now) }
-    ensures few { OnOk result (length found.new ≤ 20000) }
-    ensures many { result ≡ Err Stop.TooMany → 20000 < length (found.old ++ filter (ends_at near.now) level.now) }
+    ensures few { OnOk result (length found.new ≤ MOST_PATHS) }
+    ensures many { result ≡ Err Stop.TooMany → MOST_PATHS < length (found.old ++ filter (ends_at near.now) level.now) }
 {
     for path in level {
         add_if_complete(alloc, path, near, found)?;

@@ -1,6 +1,7 @@
 ghost use Rattle.std.specs.Prelude.{◌≡◌, ◌≤◌, ◌⊎◌, Err, length, IfOk};
 ghost use Rattle.dep_paths.specs.Paths.{IsListOf, MoreThan};
 
+use crate::limits::{MOST_LENGTH, MOST_PATHS};
 use crate::longer::Stop;
 use crate::near::distances;
 use crate::path::{Path, PlanFault};
@@ -17,11 +18,11 @@ use std::alloc::Global;
 /// and by the edges times `n` besides.
 pub fn list(alloc: Global, net: &Network, n: u32) -> Result<List<Path>, PlanFault>
     requires positive { 1 ≤ n }
-    requires small { n ≤ 64 }
+    requires small { n ≤ MOST_LENGTH }
     ensures paths { IfOk result (λ ps. IsListOf net.now n ps) }
-    ensures few { IfOk result (λ ps. length ps ≤ 20000) }
-    ensures many { result ≡ Err PlanFault.Paths → MoreThan 20000 net.now n }
-    ensures exact { MoreThan 20000 net.now n → (result ≡ Err PlanFault.Paths) ⊎ (result ≡ Err PlanFault.Memory) }
+    ensures few { IfOk result (λ ps. length ps ≤ MOST_PATHS) }
+    ensures many { result ≡ Err PlanFault.Paths → MoreThan MOST_PATHS net.now n }
+    ensures exact { MoreThan MOST_PATHS net.now n → (result ≡ Err PlanFault.Paths) ⊎ (result ≡ Err PlanFault.Memory) }
     ensures never { result ≡ Err PlanFault.Obligations → ⊥ }
 {
     let Ok(near) = distances(alloc, net, n - 1) else {

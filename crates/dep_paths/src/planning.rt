@@ -4,6 +4,7 @@ ghost use Rattle.dep_paths.specs.declared.path.Obligation.TheVariants.{Bc};
 ghost use Rattle.dep_paths.specs.Duties.{duties};
 ghost use Rattle.dep_paths.specs.Paths.{IsListOf, MoreThan};
 
+use crate::limits::{MOST_LENGTH, MOST_PATHS};
 use crate::path::{Obligation, PlanFault};
 use crate::paths::list;
 use crate::planned::Plan;
@@ -32,14 +33,14 @@ fn basic(alloc: Global, count: u32) -> Result<List<Obligation>, Memory>
 /// than 200,000. The work is that of `list`.
 pub fn plan(alloc: Global, net: &Network, n: u32) -> Result<Plan, PlanFault>
     requires positive { 1 ≤ n }
-    requires small { n ≤ 64 }
+    requires small { n ≤ MOST_LENGTH }
     ensures length { IfOk result (λ plan. plan.length ≡ n) }
     ensures paths { IfOk result (λ plan. IsListOf net.now n plan.paths) }
-    ensures few { IfOk result (λ plan. length plan.paths ≤ 20000) }
+    ensures few { IfOk result (λ plan. length plan.paths ≤ MOST_PATHS) }
     ensures conditions { IfOk result (λ plan. plan.conditions ≡ []) }
     ensures duties { IfOk result (λ plan. plan.duties ≡ duties plan.paths) }
-    ensures many { result ≡ Err PlanFault.Paths → MoreThan 20000 net.now n }
-    ensures exact { MoreThan 20000 net.now n → (result ≡ Err PlanFault.Paths) ⊎ (result ≡ Err PlanFault.Memory) }
+    ensures many { result ≡ Err PlanFault.Paths → MoreThan MOST_PATHS net.now n }
+    ensures exact { MoreThan MOST_PATHS net.now n → (result ≡ Err PlanFault.Paths) ⊎ (result ≡ Err PlanFault.Memory) }
     ensures never { result ≡ Err PlanFault.Obligations → ⊥ }
 {
     let paths = list(alloc, net, n)?;

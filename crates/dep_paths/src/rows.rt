@@ -1,11 +1,11 @@
 ghost use Rattle.std.specs.Prelude.{◌≡◌, ◌<◌, ◌≤◌, [], ◌∷◌, length, replicate, IfOk, OnOk};
 ghost use Rattle.dep_paths.specs.declared.path.Step.{Step as StepValue};
 ghost use Rattle.op_network.specs.Operators.{operands_of};
-ghost use Rattle.dep_paths.specs.Levels.{steps_into, AddsReaders, AreReaders};
+ghost use Rattle.dep_paths.specs.Levels.{steps_into, AddsReaders, AreReaderRows};
 
 use crate::path::Step;
 use cov_base::{List, Memory};
-use op_network::{EdgeId, Network};
+use op_network::{EdgeId, MOST_EDGES, Network};
 use std::alloc::Global;
 
 /// Adds a step to the row of the edge that it reads, if an output is near from it.
@@ -59,10 +59,10 @@ fn add_all_readers(
     room: u32,
     rows: &mut [List<Step>],
 ) -> Result<(), Memory>
-    requires few { length net.now.edges ≤ 8192 }
+    requires few { length net.now.edges ≤ MOST_EDGES }
     requires near { length near.now ≡ length net.now.edges }
     requires rows { rows.old ≡ replicate (length net.now.edges) [] }
-    ensures { OnOk result (AreReaders net.now.edges near.now room rows.new) }
+    ensures { OnOk result (AreReaderRows net.now.edges near.now room rows.new) }
 {
     for edge in 0..net.parts().edges.len() {
         add_readers(net, near, room, EdgeId(edge as u32), rows)?;
@@ -91,9 +91,9 @@ pub(crate) fn readers(
     near: &[u32],
     room: u32,
 ) -> Result<List<List<Step>>, Memory>
-    requires few { length net.now.edges ≤ 8192 }
+    requires few { length net.now.edges ≤ MOST_EDGES }
     requires near { length near.now ≡ length net.now.edges }
-    ensures { IfOk result (λ rows. AreReaders net.now.edges near.now room rows) }
+    ensures { IfOk result (λ rows. AreReaderRows net.now.edges near.now room rows) }
 {
     let mut rows = empty_rows(alloc, net.parts().edges.len())?;
     add_all_readers(net, near, room, rows.items_mut())?;

@@ -5,6 +5,7 @@ ghost use Rattle.dep_paths.specs.Near.{IsClosed, IsTable};
 ghost use Rattle.dep_paths.specs.Levels.{readers_of, is_near as is_near_of, start_path, first_level, longer_paths, level as level_of, complete_below, IsTooLong};
 ghost use Rattle.dep_paths.specs.Paths.{CanBeCompleted};
 
+use crate::limits::{MOST_LENGTH, MOST_PATHS};
 use crate::longer::{Stop, add_complete, add_one, longer};
 use crate::path::Path;
 use crate::rows::readers;
@@ -31,10 +32,10 @@ fn add_start(
     paths: &mut List<Path>,
 ) -> Result<(), Stop>
     requires edge { input.0 < length near.now }
-    requires few { length paths.old ≤ 20000 }
+    requires few { length paths.old ≤ MOST_PATHS }
     ensures ok { OnOk result (paths.new ≡ paths.old ++ map start_path (filter (is_near_of near.now room) (input ∷ []))) }
-    ensures few { OnOk result (length paths.new ≤ 20000) }
-    ensures many { result ≡ Err Stop.TooMany → 20000 < length (paths.old ++ map start_path (filter (is_near_of near.now room) (input ∷ []))) }
+    ensures few { OnOk result (length paths.new ≤ MOST_PATHS) }
+    ensures many { result ≡ Err Stop.TooMany → MOST_PATHS < length (paths.old ++ map start_path (filter (is_near_of near.now room) (input ∷ []))) }
 {
     if !is_near(near, room, input) {
         return Ok(());
@@ -51,8 +52,8 @@ fn add_start(
 fn starts(alloc: Global, inputs: &[EdgeId], near: &[u32], room: u32) -> Result<List<Path>, Stop>
     requires { All (λ (e : Id). e.0 < length near.now) inputs.now }
     ensures ok { IfOk result (λ ps. ps ≡ first_level inputs.now near.now room) }
-    ensures few { IfOk result (λ ps. length ps ≤ 20000) }
-    ensures many { result ≡ Err Stop.TooMany → 20000 < length (first_level inputs.now near.now room) }
+    ensures few { IfOk result (λ ps. length ps ≤ MOST_PATHS) }
+    ensures many { result ≡ Err Stop.TooMany → MOST_PATHS < length (first_level inputs.now near.now room) }
 {
     let mut paths = List::new(alloc);
     for input in inputs {
@@ -73,7 +74,7 @@ fn next_level(
 ) -> Result<List<Path>, Stop>
     requires closed { IsClosed net.now }
     requires table { IsTable (n - 1) net.now near.now }
-    requires small { n ≤ 64 }
+    requires small { n ≤ MOST_LENGTH }
     requires below { steps < n - 1 }
     requires level { level ≡ level_of net.now near.now n steps }
     ensures next { IfOk result (λ next. next ≡ level_of net.now near.now n (steps + 1)) }
@@ -92,9 +93,9 @@ pub(crate) fn levels(alloc: Global, net: &Network, near: &[u32], n: u32) -> Resu
     requires closed { IsClosed net.now }
     requires table { IsTable (n - 1) net.now near.now }
     requires positive { 1 ≤ n }
-    requires small { n ≤ 64 }
+    requires small { n ≤ MOST_LENGTH }
     ensures ok { IfOk result (λ ps. ps ≡ complete_below net.now near.now n n) }
-    ensures few { IfOk result (λ ps. length ps ≤ 20000) }
+    ensures few { IfOk result (λ ps. length ps ≤ MOST_PATHS) }
     ensures many { result ≡ Err Stop.TooMany → IsTooLong net.now near.now n }
 {
     let mut level = starts(alloc, net.parts().inputs.as_slice(), near, n - 1)?;

@@ -6,6 +6,7 @@ use Rattle.std.proofs.lemmas.List.{get_or-drop}
 use Rattle.std.proofs.lemmas.List.Folds.{list_any_more}
 use Rattle.std.proofs.lemmas.List.Sums.{count_by_more_yes, count_by_more_no}
 use Rattle.std.proofs.lemmas.Option.{get_or_from_slice_get, slice_get-get_or, slice_get_within}
+use Rattle.lus_syntax.specs.declared.limits.TheConstants.{MOST_COUNTED}
 use Rattle.lus_syntax.specs.declared.token.Token.{Token}
 use Rattle.lus_syntax.specs.declared.token.TokenKind.{TokenKind}
 use Rattle.lus_syntax.specs.declared.token.TokenKind.TheVariants.{Name, Number, Word, Sign}
@@ -159,7 +160,7 @@ crowd_counted tokens place d c = ap (λ t. is_counted t.kind) (get_or_from_slice
 pub not_here : (tokens : List Token) (place : ℕ) (d : Token) → is_counted (get_or tokens place d).kind ≡ false → IsCrowd tokens place → ⊥
 not_here tokens place d not_so c = let is_so = crowd_counted tokens place d c in absurd (cc)
 
-pub not_yet : (tokens : List Token) (place count : ℕ) → IsCount tokens place count → count < 500 → IsCrowd tokens place → ⊥
+pub not_yet : (tokens : List Token) (place count : ℕ) → IsCount tokens place count → count < MOST_COUNTED → IsCrowd tokens place → ⊥
 not_yet tokens place count n lt c =
     let most : counted tokens c.from place ≤ count = n.most c.from (record { begins = c.begins; whole = c.whole }) in
     omega (arith, c.before)
@@ -181,7 +182,7 @@ none_all tokens place before le other c =
     let within : other < length tokens = slice_get_within tokens other c.token c.here in
     before.none other (omega arith) c
 
-pub least : (tokens : List Token) (place : ℕ) (d : Token) → IsCount tokens place 500 → NoCrowdBefore tokens place → place < length tokens → is_counted (get_or tokens place d).kind ≡ true → IsLeastCrowd tokens place
+pub least : (tokens : List Token) (place : ℕ) (d : Token) → IsCount tokens place MOST_COUNTED → NoCrowdBefore tokens place → place < length tokens → is_counted (get_or tokens place d).kind ≡ true → IsLeastCrowd tokens place
 least tokens place d n before lt is_so =
     record {
       crowd = record { token = get_or tokens place d; here = slice_get-get_or tokens place d lt; counted = is_so; from = n.from; begins = n.whole.begins; whole = n.whole.whole; before = n.is };

@@ -1,7 +1,7 @@
 use Rattle.std.proofs.Common.{◌≡◌, ℕ, ◌+◌, ◌≤◌, true, List, [], ◌∷◌, ◌++◌, length, drop, arith, length-drop, subst}
 use Rattle.std.specs.Prelude.{Ok}
 use Rattle.lus_syntax.specs.declared.pieces.Piece.{Piece}
-use Rattle.lus_syntax.specs.declared.pieces.Piece.TheVariants.{Gap, Lexeme}
+use Rattle.lus_syntax.specs.declared.pieces.Piece.TheVariants as piece
 use Rattle.lus_syntax.specs.declared.token.TokenKind.{TokenKind}
 use Rattle.lus_syntax.specs.declared.token.Token.{Token}
 use Rattle.lus_syntax.specs.Pieces.{Begins}
@@ -37,8 +37,14 @@ cuts_token nothing n kind dense longest w = token n kind dense longest w nothing
 cuts_token (skip m t c) n kind dense longest w = skip m t (cuts_token c n kind dense longest w)
 cuts_token (token m k d l v c) n kind dense longest w = token m k d l v (cuts_token c n kind dense longest w)
 
-pub gap_of : (rest r : List ℕ) (p : Piece) (n : ℕ) → Begins rest (Ok p) → p ≡ Gap n → rest ≡ r → Skips r n
+pub gap_of : (rest r : List ℕ) (p : Piece) (n : ℕ) → Begins rest (Ok p) → p ≡ piece.Gap n → rest ≡ r → Skips r n
 gap_of rest r p n b e e' = subst (λ r. Skips r n) e' (subst (λ p. Begins rest (Ok p)) e b)
 
-pub lexeme_of : (rest r : List ℕ) (p : Piece) (n : ℕ) (kind : TokenKind) → Begins rest (Ok p) → p ≡ Lexeme n kind → rest ≡ r → IsDense r × IsLongest r n kind × IsNarrow kind
-lexeme_of rest r p n kind b e e' = subst (λ r. IsDense r × IsLongest r n kind × IsNarrow kind) e' (subst (λ p. Begins rest (Ok p)) e b)
+pub token_of : (rest r : List ℕ) (p : Piece) (n : ℕ) (kind : TokenKind) → Begins rest (Ok p) → p ≡ piece.Token n kind → rest ≡ r → IsDense r × IsLongest r n kind × IsNarrow kind
+token_of rest r p n kind b e e' = subst (λ r. IsDense r × IsLongest r n kind × IsNarrow kind) e' (subst (λ p. Begins rest (Ok p)) e b)
+
+-- each token has a byte or more
+pub token_count : {text : List ℕ} {at to : ℕ} {ts : List Token} → Cuts text at ts to → at + length ts ≤ to
+token_count nothing = omega arith
+token_count (skip n s c) = let h = token_count c in omega arith
+token_count (token n kind d l w c) = let h = token_count c in let some = l.some in omega arith

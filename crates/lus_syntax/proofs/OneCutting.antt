@@ -10,7 +10,7 @@ use Rattle.lus_syntax.specs.declared.pieces.Cause.{Cause}
 use Rattle.lus_syntax.specs.declared.pieces.Cause.TheVariants.{BadByte, OpenComment, WideLiteral}
 use Rattle.lus_syntax.specs.declared.token.Token.{Token}
 use Rattle.lus_syntax.specs.Pieces.{Stuck, fault_at}
-use Rattle.lus_syntax.specs.Cuts.{IsLongest, IsNarrow, Fails, IsCutTo, IsCutOrFault, IsOneFault, NoToken, Skips, blank, line, block, IsDense, Cuts, nothing, skip, token, IsLine, IsClose, is_blank, is_blank_first, opens_line, opens_block}
+use Rattle.lus_syntax.specs.Cuts.{IsLongest, IsNarrow, Fails, IsCutTo, IsUncutAtFault, IsOneFault, NoToken, Skips, blank, line, block, IsDense, Cuts, nothing, skip, token, IsLine, IsClose, is_blank, is_blank_first, opens_line, opens_block}
 
 not_both : {A : Type 0} (b : Bool) → b ≡ true → b ≡ false → A
 not_both b e f = absurd (cc)
@@ -154,11 +154,11 @@ not_cut text f ts h c =
     let lt : h.place < length text = h.cut.within in
     omega arith
 
-pub cut_or_fault : (text : List ℕ) → IsCutOrFault text
-cut_or_fault text (fault.BadByte at) ts h c = absurd (not_cut text (fault.BadByte at) ts (fault_of text (fault.BadByte at) (λ e. cc) h) c)
-cut_or_fault text (fault.OpenComment at) ts h c = absurd (not_cut text (fault.OpenComment at) ts (fault_of text (fault.OpenComment at) (λ e. cc) h) c)
-cut_or_fault text (fault.WideLiteral at) ts h c = absurd (not_cut text (fault.WideLiteral at) ts (fault_of text (fault.WideLiteral at) (λ e. cc) h) c)
-cut_or_fault text fault.Memory ts h c = refl
+pub no_cut_at_fault : (text : List ℕ) → IsUncutAtFault text
+no_cut_at_fault text (fault.BadByte at) ts h c = absurd (not_cut text (fault.BadByte at) ts (fault_of text (fault.BadByte at) (λ e. cc) h) c)
+no_cut_at_fault text (fault.OpenComment at) ts h c = absurd (not_cut text (fault.OpenComment at) ts (fault_of text (fault.OpenComment at) (λ e. cc) h) c)
+no_cut_at_fault text (fault.WideLiteral at) ts h c = absurd (not_cut text (fault.WideLiteral at) ts (fault_of text (fault.WideLiteral at) (λ e. cc) h) c)
+no_cut_at_fault text fault.Memory ts h c = refl
 
 one_cause : (rest : List ℕ) (c d : Cause) → Stuck rest c → Stuck rest d → c ≡ d
 one_cause rest BadByte BadByte h k = refl

@@ -1,23 +1,17 @@
 -- Plain sources: their tokens and their tree are determined.
-use Rattle.std.proofs.Common.{◌≡◌, ℕ, ◌+◌, ◌≤◌, List, length, sym, subst, arith}
+use Rattle.std.proofs.Common.{◌≡◌, ℕ, List, length, sym, subst}
 use Rattle.std.specs.Prelude.{Result, Ok, Err, IfOk}
 use Rattle.lus_syntax.specs.declared.ast.Ast.{Ast}
-use Rattle.lus_syntax.specs.declared.fault.PlainFault.{PlainFault}
+use Rattle.lus_syntax.specs.declared.plain.fault.PlainFault.{PlainFault}
 use Rattle.lus_syntax.specs.declared.lexer.LexFault.{LexFault}
 use Rattle.lus_syntax.specs.declared.lexer.LexFault.TheVariants.{Memory}
 use Rattle.lus_syntax.specs.declared.token.Token.{Token}
 use Rattle.lus_syntax.specs.Crowding.{IsCrowd}
-use Rattle.lus_syntax.specs.Cuts.{Cuts, nothing, skip, token, Fails}
-use Rattle.lus_syntax.specs.Grammar.{Derives}
+use Rattle.lus_syntax.specs.Cuts.{Cuts, Fails}
+use Rattle.lus_syntax.specs.PlainGrammar.{Derives}
 use Rattle.lus_syntax.specs.Plain.{IsPlain}
-use Rattle.lus_syntax.proofs.OneCutting.{one_cutting, ends_all, cut_or_fault}
-use Rattle.lus_syntax.proofs.Nodes.{only_one}
-
--- each token has a byte or more
-pub token_count : {text : List ℕ} {at to : ℕ} {ts : List Token} → Cuts text at ts to → at + length ts ≤ to
-token_count nothing = omega arith
-token_count (skip n s c) = let h = token_count c in omega arith
-token_count (token n kind d l w c) = let h = token_count c in let some = l.some in omega arith
+use Rattle.lus_syntax.proofs.OneCutting.{one_cutting, ends_all, no_cut_at_fault}
+use Rattle.lus_syntax.proofs.PlainNodes.{only_one}
 
 same_tokens : {text : List ℕ} {ts us : List Token} → Cuts text 0 ts (length text) → Cuts text 0 us (length text) → ts ≡ us
 same_tokens {text} c d = (one_cutting c d (ends_all text) (ends_all text)).0
@@ -27,7 +21,7 @@ one_source text a b p q = only_one text p.tokens a b p.derived (subst (λ ts. De
 
 -- a text that a fault stops isn't plain
 pub fault_refuses : (text : List ℕ) (fault : LexFault) → Fails text fault → (fault ≡ Memory → ⊥) → (tree : Ast) → IsPlain text tree → ⊥
-fault_refuses text fault fails other tree p = other (cut_or_fault text fault p.tokens fails p.cut)
+fault_refuses text fault fails other tree p = other (no_cut_at_fault text fault p.tokens fails p.cut)
 
 -- nor is a crowded one
 pub crowd_refuses : (text : List ℕ) (ts : List Token) (place : ℕ) → Cuts text 0 ts (length text) → IsCrowd ts place → (tree : Ast) → IsPlain text tree → ⊥

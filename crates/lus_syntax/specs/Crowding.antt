@@ -1,6 +1,7 @@
--- Crowding: more than 500 counted tokens between two semicolons.
+-- Crowding: more than MOST_COUNTED counted tokens between two semicolons.
 use Rattle.std.specs.Prelude.{◌≡◌, ℕ, ◌-◌, ◌≤◌, Bool, true, false, List, take, drop, count_by, Some, slice_get}
 use Rattle.std.specs.List.{list_any}
+use Rattle.lus_syntax.specs.declared.limits.TheConstants.{MOST_COUNTED}
 use Rattle.lus_syntax.specs.declared.token.Token.{Token}
 use Rattle.lus_syntax.specs.declared.token.TokenKind.{TokenKind}
 use Rattle.lus_syntax.specs.declared.token.TokenKind.TheVariants.{Word, Sign}
@@ -42,7 +43,7 @@ is_semicolon _ = false
 abbrev pub stretch : ℕ → ℕ → List Token → List Token
 stretch from to tokens = take (to - from) (drop from tokens)
 
--- the token at this place is counted, and is the 501st counted one of a stretch without `;`
+-- the token at this place is counted, and MOST_COUNTED other counted ones of a stretch without `;` stand before it
 pub record IsCrowd (tokens : List Token) (place : ℕ) : Type 0 where
   pub token : Token
   pub here : slice_get tokens place ≡ Some token
@@ -50,7 +51,7 @@ pub record IsCrowd (tokens : List Token) (place : ℕ) : Type 0 where
   pub from : ℕ
   pub begins : from ≤ place
   pub whole : list_any (λ t. is_semicolon t.kind) (stretch from place tokens) ≡ false
-  pub before : count_by (λ t. is_counted t.kind) (stretch from place tokens) ≡ 500
+  pub before : count_by (λ t. is_counted t.kind) (stretch from place tokens) ≡ MOST_COUNTED
 
 -- the least such place
 pub record IsLeastCrowd (tokens : List Token) (place : ℕ) : Type 0 where

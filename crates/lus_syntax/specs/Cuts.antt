@@ -107,8 +107,8 @@ abbrev pub IsCutOnce : List ℕ → Type 0
 IsCutOnce text = (ts us : List Token) → Cuts text 0 ts (length text) → Cuts text 0 us (length text) → ts ≡ us
 
 -- where a fault stands the text can't be cut
-abbrev pub IsCutOrFault : List ℕ → Type 0
-IsCutOrFault text = (fault : LexFault) (ts : List Token) → Fails text fault → Cuts text 0 ts (length text) → fault ≡ Memory
+abbrev pub IsUncutAtFault : List ℕ → Type 0
+IsUncutAtFault text = (fault : LexFault) (ts : List Token) → Fails text fault → Cuts text 0 ts (length text) → fault ≡ Memory
 
 abbrev pub IsOneFault : List ℕ → Type 0
 IsOneFault text = (fault other : LexFault) → fault ≢ Memory → other ≢ Memory → Fails text fault → Fails text other → fault ≡ other

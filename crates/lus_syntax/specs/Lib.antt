@@ -1,8 +1,16 @@
 pub mod Crowding
 pub mod Cuts
+pub mod Faults
 pub mod Grammar
 pub mod Operators
+pub mod Parts
+pub mod Phrases
 pub mod Pieces
 pub mod Plain
+pub mod PlainGrammar
+pub mod PlainOperators
+pub mod PlainReading
+pub mod Printing
 pub mod Reading
+pub mod Sections
 pub mod Words

@@ -5,7 +5,7 @@ use Rattle.lus_syntax.specs.declared.lexer.LexFault.TheVariants as fault
 use Rattle.lus_syntax.specs.declared.pieces.Cause.{Cause}
 use Rattle.lus_syntax.specs.declared.pieces.Cause.TheVariants.{BadByte, OpenComment, WideLiteral}
 use Rattle.lus_syntax.specs.declared.pieces.Piece.{Piece}
-use Rattle.lus_syntax.specs.declared.pieces.Piece.TheVariants.{Gap, Lexeme}
+use Rattle.lus_syntax.specs.declared.pieces.Piece.TheVariants.{Gap, Token}
 use Rattle.lus_syntax.specs.Cuts.{Skips, IsDense, IsLongest, IsNarrow, IsBadByte, IsOpenComment, IsWideLiteral}
 
 -- why no piece begins here
@@ -16,7 +16,7 @@ Stuck rest WideLiteral = IsWideLiteral rest
 
 abbrev pub Begins : List ℕ → Result Piece Cause → Type 0
 Begins rest (Ok (Gap n)) = Skips rest n
-Begins rest (Ok (Lexeme n kind)) = IsDense rest × IsLongest rest n kind × IsNarrow kind
+Begins rest (Ok (Token n kind)) = IsDense rest × IsLongest rest n kind × IsNarrow kind
 Begins rest (Err cause) = Stuck rest cause
 
 abbrev pub fault_at : Cause → ℕ → LexFault

@@ -1,6 +1,8 @@
--- The plain grammar as it is read from the left: what a part takes off a list of tokens, and what
--- it leaves.
-use Rattle.std.specs.Prelude.{◌≡◌, ℕ, ◌<◌, ◌≤◌, suc, Bool, true, false, List, [], ◌∷◌, ◌++◌, nat_le, Option, Some, None, Result, Ok, Err}
+-- Expressions as they are read from the left: what a part takes off a list of tokens, and what it
+-- leaves. Behind an operand stand operators with their right operands, each of which takes all that
+-- stands before it as its left operand.
+use Rattle.std.specs.Prelude.{◌≡◌, ℕ, ◌<◌, ◌≤◌, Bool, true, false, List, [], ◌∷◌, ◌++◌, length, Option, Some, None, Result, Ok, Err}
+use Rattle.std.specs.Borrow.{Bor}
 use Rattle.lus_syntax.specs.declared.token.Token.{Token}
 use Rattle.lus_syntax.specs.declared.token.TokenKind.{TokenKind}
 use Rattle.lus_syntax.specs.declared.token.TokenKind.TheVariants.{Name, Word, Sign}
@@ -8,166 +10,148 @@ use Rattle.lus_syntax.specs.declared.token.Keyword.TheVariants as word
 use Rattle.lus_syntax.specs.declared.token.Symbol.TheVariants as sign
 use Rattle.lus_syntax.specs.declared.ast.Expr.{Expr}
 use Rattle.lus_syntax.specs.declared.ast.ExprKind.TheVariants as tree
-use Rattle.lus_syntax.specs.declared.ast.Decl.{Decl}
-use Rattle.lus_syntax.specs.declared.ast.Decl.TheVariants.{NodeDecl}
-use Rattle.lus_syntax.specs.declared.ast.Group.{Group}
-use Rattle.lus_syntax.specs.declared.ast.Item.{Item}
-use Rattle.lus_syntax.specs.declared.ast.Item.TheVariants.{Equation}
-use Rattle.lus_syntax.specs.declared.ast.Spot.{Spot}
-use Rattle.lus_syntax.specs.declared.declarations.Body.{Body}
-use Rattle.lus_syntax.specs.declared.declarations.Heading.{Heading}
-use Rattle.std.specs.Borrow.{Bor}
-use Rattle.lus_syntax.specs.declared.fault.PlainFault.{PlainFault}
-use Rattle.lus_syntax.specs.declared.fault.PlainFault.TheVariants.{NotPlain, Memory}
-use Rattle.lus_syntax.specs.declared.operators.Binary.{Binary}
-use Rattle.lus_syntax.specs.declared.operators.Unary.{Unary}
-use Rattle.lus_syntax.specs.Operators.{binary, unary, loosest}
-use Rattle.lus_syntax.specs.Grammar.{node, spelling, spot}
+use Rattle.lus_syntax.specs.declared.ast.UnOp.TheVariants as one
+use Rattle.lus_syntax.specs.declared.fault.PartFault.{PartFault}
+use Rattle.lus_syntax.specs.declared.fault.PartFault.TheVariants.{Stuck, Memory}
+use Rattle.lus_syntax.specs.declared.operators.Infix.{Infix}
+use Rattle.lus_syntax.specs.declared.operators.Prefix.{Prefix}
+use Rattle.lus_syntax.specs.Grammar.{node, spelling, literal}
+use Rattle.lus_syntax.specs.Operators.{infix_of, prefix_of, loosest, left_rank, right_rank}
+use Rattle.lus_syntax.specs.Parts.{Lacks, Alike}
 
--- the first token is not of this kind, or there is none
-abbrev pub Lacks : List Token → TokenKind → Type 0
-Lacks ts kind = (t : Token) (rest : List Token) → ts ≡ t ∷ rest → t.kind ≡ kind → ⊥
+-- the rank of an operand without operators before it
+abbrev pub bare_rank : TokenKind → ℕ
+bare_rank (Word word.If) = 1
+bare_rank _ = 0
 
--- the expression of one token that is of this kind, has this place and these bytes
-abbrev pub atom_at : TokenKind → ℕ → List ℕ → Option Expr
-atom_at Name at bytes = Some (node at (tree.Name bytes))
-atom_at (Word word.True) at bytes = Some (node at (tree.Truth true))
-atom_at (Word word.False) at bytes = Some (node at (tree.Truth false))
-atom_at _ at bytes = None
+abbrev pub prefixed_rank : Option Prefix → ℕ → ℕ
+prefixed_rank None bare = bare
+prefixed_rank (Some op) bare = op.rank
 
-abbrev pub atom : List ℕ → Token → Option Expr
-atom text t = atom_at t.kind t.start (spelling text t)
+-- the rank of an operand that begins with a token
+abbrev pub operand_rank : TokenKind → ℕ
+operand_rank k = prefixed_rank (prefix_of k) (bare_rank k)
 
--- the expressions of a rank, or what follows an operand of the rank above one
+abbrev pub front_rank : List Token → ℕ
+front_rank [] = 0
+front_rank (t ∷ ts) = operand_rank t.kind
+
+-- an expression of a rank; what follows an operand of a rank in an expression of another; what stands
+-- before the first operator between operands, of a rank; `not`s behind a `pre`; and a call behind
+-- its name, its `(` and some arguments
 pub data Part : Type 0 where
   At : ℕ → Part
-  Behind : ℕ → Expr → Part
+  Behind : ℕ → ℕ → Expr → Bool → Part
+  Operand : ℕ → Part
+  Nots : Part
+  Arguments : Token → List Expr → Part
 
-pub data Reads (text : List ℕ) : Part → List Token → Expr → List Token → Type 0 where
-  r_unary : {n : ℕ} {ts rest : List Token} {a : Expr} (t : Token) (u : Unary) → unary t.kind ≡ Some u → u.rank ≡ suc n → Reads text (At (suc n)) ts a rest → Reads text (At (suc n)) (t ∷ ts) (node t.start (tree.One u.op a)) rest
-  r_operand : {n : ℕ} {ts mid rest : List Token} {a e : Expr} → Reads text (At n) ts a mid → Reads text (Behind n a) mid e rest → Reads text (At (suc n)) ts e rest
-  r_stop : {n : ℕ} {ts : List Token} {a : Expr} → Reads text (Behind n a) ts a ts
-  r_left : {n : ℕ} {ts mid rest : List Token} {a b e : Expr} (t : Token) (x : Binary) → binary t.kind ≡ Some x → x.rank ≡ suc n → x.right ≡ false → Reads text (At n) ts b mid → Reads text (Behind n (node t.start (tree.Two x.op a b))) mid e rest → Reads text (Behind n a) (t ∷ ts) e rest
-  r_right : {n : ℕ} {ts rest : List Token} {a b : Expr} (t : Token) (x : Binary) → binary t.kind ≡ Some x → x.rank ≡ suc n → x.right ≡ true → Reads text (At (suc n)) ts b rest → Reads text (Behind n a) (t ∷ ts) (node t.start (tree.Two x.op a b)) rest
-  r_atom : {rest : List Token} {e : Expr} (t : Token) → atom text t ≡ Some e → Reads text (At 0) (t ∷ rest) e rest
-  r_parens : {ts rest : List Token} {e : Expr} (t u : Token) → t.kind ≡ Sign sign.OpenParen → u.kind ≡ Sign sign.CloseParen → Reads text (At loosest) ts e (u ∷ rest) → Reads text (At 0) (t ∷ ts) e rest
+-- the truth says whether the expression ends open
+pub data Reads (text : List ℕ) : Part → List Token → Expr → Bool → List Token → Type 0 where
+  r_at : {m n : ℕ} {ts mid rest : List Token} {a e : Expr} {p o : Bool}
+      → m ≤ n → Reads text (Operand m) ts a p mid → Reads text (Behind m n a p) mid e o rest
+      → Reads text (At n) ts e o rest
+  r_stop : {m n : ℕ} {ts : List Token} {a : Expr} {o : Bool} → Reads text (Behind m n a o) ts a o ts
+  r_infix : {m n : ℕ} {ts mid rest : List Token} {a b e : Expr} {p o : Bool} (t : Token) (x : Infix)
+      → infix_of t.kind ≡ Some x → m ≤ left_rank x → x.rank ≤ n
+      → Reads text (At (right_rank x)) ts b p mid
+      → Reads text (Behind x.rank n (node t.start (tree.Two x.op a b)) p) mid e o rest
+      → Reads text (Behind m n a false) (t ∷ ts) e o rest
+  r_prefix : {n : ℕ} {ts rest : List Token} {a : Expr} {o : Bool} (t : Token) (op : Prefix)
+      → prefix_of t.kind ≡ Some op → op.rank ≡ n → Reads text (At n) ts a o rest
+      → Reads text (Operand n) (t ∷ ts) (node t.start (tree.One op.op a)) o rest
+  r_pre_not : {ts rest : List Token} {a : Expr} {o : Bool} (t : Token)
+      → t.kind ≡ Word word.Pre → Reads text Nots ts a o rest
+      → Reads text (Operand 1) (t ∷ ts) (node t.start (tree.One one.Pre a)) o rest
+  r_if : {ts us vs rest : List Token} {a b c : Expr} {p q o : Bool} (t u v : Token)
+      → t.kind ≡ Word word.If → Reads text (At loosest) ts a p (u ∷ us)
+      → u.kind ≡ Word word.Then → Reads text (At loosest) us b q (v ∷ vs)
+      → v.kind ≡ Word word.Else → Reads text (At loosest) vs c o rest
+      → Reads text (Operand 1) (t ∷ ts) (node t.start (tree.Cond a b c)) true rest
+  r_atom : {rest : List Token} {e : Expr} (t : Token)
+      → literal text t t.kind ≡ Some e
+      → Reads text (Operand 0) (t ∷ rest) e false rest
+  r_parens : {ts rest : List Token} {e : Expr} {o : Bool} (t u : Token)
+      → t.kind ≡ Sign sign.OpenParen → Reads text (At loosest) ts e o (u ∷ rest) → u.kind ≡ Sign sign.CloseParen
+      → Reads text (Operand 0) (t ∷ ts) e false rest
+  r_call : {ts rest : List Token} {e : Expr} (t u : Token)
+      → t.kind ≡ Name → u.kind ≡ Sign sign.OpenParen → Reads text (Arguments t []) ts e false rest
+      → Reads text (Operand 0) (t ∷ u ∷ ts) e false rest
+  r_more_nots : {ts rest : List Token} {a : Expr} {o : Bool} (t : Token)
+      → t.kind ≡ Word word.Not → Reads text Nots ts a o rest
+      → Reads text Nots (t ∷ ts) (node t.start (tree.One one.Not a)) o rest
+  r_last_not : {ts rest : List Token} {a : Expr} {o : Bool} (t : Token)
+      → t.kind ≡ Word word.Not → Reads text (At 1) ts a o rest
+      → Reads text Nots (t ∷ ts) (node t.start (tree.One one.Not a)) o rest
+  r_no_arguments : {rest : List Token} {name : Token} (u : Token)
+      → u.kind ≡ Sign sign.CloseParen
+      → Reads text (Arguments name []) (u ∷ rest) (node name.start (tree.Call (spelling text name) [])) false rest
+  r_last_argument : {ts rest : List Token} {name : Token} {before : List Expr} {a : Expr} {p : Bool} (u : Token)
+      → Reads text (At loosest) ts a p (u ∷ rest) → u.kind ≡ Sign sign.CloseParen
+      → Reads text (Arguments name before) ts (node name.start (tree.Call (spelling text name) (before ++ a ∷ []))) false rest
+  r_more_arguments : {ts us rest : List Token} {name : Token} {before : List Expr} {a e : Expr} {p : Bool} (u : Token)
+      → Reads text (At loosest) ts a p (u ∷ us) → u.kind ≡ Sign sign.Comma
+      → Reads text (Arguments name (before ++ a ∷ [])) us e false rest
+      → Reads text (Arguments name before) ts e false rest
 
--- an operator of this rank or a rank below
-abbrev pub up_to : ℕ → Option Binary → Bool
-up_to n None = false
-up_to n (Some x) = nat_le x.rank n
+-- What may follow an expression of a rank: no `(`, no operator of the rank or a lower one, and none
+-- at all where the expression ends open.
+pub record StopsAt (rank : ℕ) (ends_open : Bool) (rest : List Token) : Type 0 where
+  pub no_infix : (t : Token) (us : List Token) (x : Infix) → rest ≡ t ∷ us → infix_of t.kind ≡ Some x → (ends_open ≡ false) × (rank < x.rank)
+  pub no_call : Lacks rest (Sign sign.OpenParen)
 
-abbrev pub StopsAt : ℕ → List Token → Type 0
-StopsAt n [] = Unit {0}
-StopsAt n (t ∷ ts) = up_to n (binary t.kind) ≡ false
+abbrev pub Stops : Part → Bool → List Token → Type 0
+Stops (At n) o rest = StopsAt n o rest
+Stops (Behind m n a p) o rest = StopsAt n o rest
+Stops (Operand n) o rest = StopsAt n o rest
+Stops Nots o rest = StopsAt 1 o rest
+Stops (Arguments name before) o rest = StopsAt 0 o rest
 
--- no operator that the part would take stands in front
-abbrev pub Stops : Part → List Token → Type 0
-Stops (At n) rest = StopsAt n rest
-Stops (Behind n a) rest = StopsAt (suc n) rest
+-- The tokens but the last ones, so many as are left, go on to something that the part reads. With the
+-- next token, or where they end there, the part reads nothing.
+pub record Bad (text : List ℕ) (p : Part) (ts : List Token) (left : ℕ) : Type 0 where
+  pub front : List Token
+  pub rest : List Token
+  pub whole : ts ≡ front ++ rest
+  pub count : length rest ≡ left
+  pub reach : (more : List Token) × (e : Expr) × (o : Bool) × Reads text p (front ++ more) e o []
+  pub dead : (more : List Token) (e : Expr) (o : Bool) (r : List Token) → Alike rest more → Reads text p (front ++ more) e o r → Stops p o r → ⊥
 
--- there is nothing that the part takes to its end
-abbrev pub Unread : List ℕ → Part → List Token → Type 0
-Unread text p ts = (e : Expr) (rest : List Token) → Reads text p ts e rest → Stops p rest → ⊥
+-- what a reader of a part answers
+abbrev pub Answers : List ℕ → Part → List Token → Result (Expr × Bor (List Token)) PartFault → Type 0
+Answers text p ts (Ok f) = (o : Bool) × Reads text p ts f.0 o f.1.now × Stops p o f.1.now
+Answers text p ts (Err (Stuck left)) = Bad text p ts left
+Answers text p ts (Err Memory) = Unit {0}
 
-abbrev pub Parsed : List ℕ → Part → List Token → Result (Expr × Bor (List Token)) PlainFault → Type 0
-Parsed text p ts (Ok f) = Reads text p ts f.0 f.1.now × Stops p f.1.now
-Parsed text p ts (Err NotPlain) = Unread text p ts
-Parsed text p ts (Err Memory) = Unit {0}
+-- what has been read of an expression of rank n: an operand of rank m, whose last part has the rank low
+pub record Partway (text : List ℕ) (n m : ℕ) (ts : List Token) (a : Expr) (o : Bool) (rest : List Token) : Type 0 where
+  pub front : List Token
+  pub whole : ts ≡ front ++ rest
+  pub low : ℕ
+  pub stops : StopsAt low o rest
+  pub on : (more : List Token) (e : Expr) (p : Bool) (r : List Token) → Reads text (Behind m n a o) more e p r → Reads text (At n) (front ++ more) e p r
+  pub back : (more : List Token) (e : Expr) (p : Bool) (r : List Token) → StopsAt low o more → Reads text (At n) (front ++ more) e p r → StopsAt n p r → Reads text (Behind m n a o) more e p r
 
--- what has been read of the rank above n: an operand, and operators behind it
-pub record Partway (text : List ℕ) (n : ℕ) (ts : List Token) (a : Expr) (rest : List Token) : Type 0 where
-  pub on : (e : Expr) (r : List Token) → Reads text (Behind n a) rest e r → Reads text (At (suc n)) ts e r
-  pub back : (e : Expr) (r : List Token) → Reads text (At (suc n)) ts e r → StopsAt (suc n) r → Reads text (Behind n a) rest e r
-  pub stops : StopsAt n rest
+-- what has been read of a call: arguments, and a comma behind each
+pub record Called (text : List ℕ) (name : Token) (ts : List Token) (before : List Expr) (rest : List Token) : Type 0 where
+  pub front : List Token
+  pub whole : ts ≡ front ++ rest
+  pub on : (more : List Token) (e : Expr) (r : List Token) → Reads text (Arguments name before) more e false r → Reads text (Arguments name []) (front ++ more) e false r
+  pub back : (more : List Token) (e : Expr) (p : Bool) (r : List Token) → Reads text (Arguments name []) (front ++ more) e p r → Reads text (Arguments name before) more e p r
+  pub bare : before ≡ [] → Lacks rest (Sign sign.CloseParen)
 
--- no operator of this rank stands in front
-abbrev pub NoUnary : ℕ → List Token → Type 0
-NoUnary n ts = (t : Token) (us : List Token) (u : Unary) → ts ≡ t ∷ us → unary t.kind ≡ Some u → u.rank ≡ n → ⊥
+-- no operator of this rank or a lower one stands in front
+abbrev pub NoInfix : ℕ → List Token → Type 0
+NoInfix n ts = (t : Token) (us : List Token) (x : Infix) → ts ≡ t ∷ us → infix_of t.kind ≡ Some x → x.rank ≤ n → ⊥
 
-abbrev pub NoBinary : ℕ → List Token → Type 0
-NoBinary n ts = (t : Token) (us : List Token) (x : Binary) → ts ≡ t ∷ us → binary t.kind ≡ Some x → x.rank ≡ n → ⊥
+-- the first token is of this kind
+pub record Begins (ts : List Token) (kind : TokenKind) : Type 0 where
+  pub first : Token
+  pub more : List Token
+  pub whole : ts ≡ first ∷ more
+  pub is : first.kind ≡ kind
 
--- no operator has a rank above the first and up to the second
-abbrev pub NoUnaryWithin : ℕ → ℕ → Type 0
-NoUnaryWithin low high = (k : TokenKind) (u : Unary) → unary k ≡ Some u → low < u.rank → u.rank ≤ high → ⊥
-
-abbrev pub NoBinaryWithin : ℕ → ℕ → Type 0
-NoBinaryWithin low high = (k : TokenKind) (x : Binary) → binary k ≡ Some x → low < x.rank → x.rank ≤ high → ⊥
-
--- no atom of one token stands in front
-abbrev pub NoAtom : List ℕ → List Token → Type 0
-NoAtom text ts = (t : Token) (us : List Token) → ts ≡ t ∷ us → atom text t ≡ None
-
--- what a reader takes off, or that there is nothing that it takes
-abbrev pub Takes : {A : Type 0} → (List Token → A → List Token → Type 0) → List Token → Result (A × Bor (List Token)) PlainFault → Type 0
-Takes R ts (Ok f) = R ts f.0 f.1.now
-Takes {A} R ts (Err NotPlain) = (x : A) (rest : List Token) → R ts x rest → ⊥
-Takes R ts (Err Memory) = Unit {0}
-
--- one after another, as many as there are, behind those that were read before
-pub data Many {A : Type 0} (One : List Token → A → List Token → Type 0) (Ends : List Token → Type 0) : List A → List Token → List A → List Token → Type 0 where
-  m_stop : {before : List A} {ts : List Token} → Ends ts → Many One Ends before ts before ts
-  m_next : {before all : List A} {ts mid rest : List Token} {x : A} → One ts x mid → Many One Ends (before ++ x ∷ []) mid all rest → Many One Ends before ts all rest
-
--- what has been read, where a reader takes one after another
-pub record Run {A : Type 0} (One : List Token → A → List Token → Type 0) (Ends : List Token → Type 0) (Reader : List Token → List A → List Token → Type 0) (ts : List Token) (before : List A) (rest : List Token) : Type 0 where
-  pub on : (all : List A) (r : List Token) → Many One Ends before rest all r → Reader ts all r
-  pub back : (all : List A) (r : List Token) → Reader ts all r → Many One Ends before rest all r
-
-abbrev pub NoComma : List Token → Type 0
-NoComma rest = Lacks rest (Sign sign.Comma)
-
-abbrev pub NoVar : List Token → Type 0
-NoVar rest = Lacks rest (Word word.Var)
-
-abbrev pub NoName : List Token → Type 0
-NoName rest = Lacks rest Name
-
--- ',' NAME
-pub data ReadsNext (text : List ℕ) : List Token → Spot → List Token → Type 0 where
-  r_next : {rest : List Token} (comma t : Token) → comma.kind ≡ Sign sign.Comma → t.kind ≡ Name → ReadsNext text (comma ∷ t ∷ rest) (spot text t) rest
-
--- NAME { ',' NAME }
-pub data ReadsNames (text : List ℕ) : List Token → List Spot → List Token → Type 0 where
-  r_names : {ts rest : List Token} {names : List Spot} (t : Token) → t.kind ≡ Name → Many (ReadsNext text) NoComma (spot text t ∷ []) ts names rest → ReadsNames text (t ∷ ts) names rest
-
--- NAME { ',' NAME } ':' 'bool'
-pub data ReadsGroup (text : List ℕ) : List Token → Group → List Token → Type 0 where
-  r_group : {ts rest : List Token} {names : List Spot} (colon ty : Token) → ReadsNames text ts names (colon ∷ ty ∷ rest) → colon.kind ≡ Sign sign.Colon → ty.kind ≡ Word word.Bool → ReadsGroup text ts (record { names = names; ty = spot text ty; clock = None }) rest
-
--- '(' group ')'
-pub data ReadsEnclosed (text : List ℕ) : List Token → Group → List Token → Type 0 where
-  r_enclosed : {ts rest : List Token} {g : Group} (open_paren close_paren : Token) → open_paren.kind ≡ Sign sign.OpenParen → ReadsGroup text ts g (close_paren ∷ rest) → close_paren.kind ≡ Sign sign.CloseParen → ReadsEnclosed text (open_paren ∷ ts) g rest
-
--- [ 'var' group ';' ]
-pub data ReadsLocals (text : List ℕ) : List Token → List Group → List Token → Type 0 where
-  r_no_locals : {ts : List Token} → NoVar ts → ReadsLocals text ts [] ts
-  r_locals : {ts rest : List Token} {g : Group} (var semicolon : Token) → var.kind ≡ Word word.Var → ReadsGroup text ts g (semicolon ∷ rest) → semicolon.kind ≡ Sign sign.Semicolon → ReadsLocals text (var ∷ ts) (g ∷ []) rest
-
--- '=' e ';' behind a name
-pub data ReadsRight (text : List ℕ) (left : Token) : List Token → Item → List Token → Type 0 where
-  r_right_side : {ts rest : List Token} {e : Expr} (equals semicolon : Token) → equals.kind ≡ Sign sign.Equals → Reads text (At loosest) ts e (semicolon ∷ rest) → semicolon.kind ≡ Sign sign.Semicolon → ReadsRight text left (equals ∷ ts) (Equation equals.start (spot text left ∷ []) e) rest
-
--- NAME '=' e ';'
-pub data ReadsItem (text : List ℕ) : List Token → Item → List Token → Type 0 where
-  r_item : {ts rest : List Token} {item : Item} (left : Token) → left.kind ≡ Name → ReadsRight text left ts item rest → ReadsItem text (left ∷ ts) item rest
-
--- 'node' NAME '(' group ')' 'returns' '(' group ')' ';'
-pub data ReadsHeading (text : List ℕ) : List Token → Heading → List Token → Type 0 where
-  r_heading : {is os rest : List Token} {input output : Group} (keyword name returns semicolon : Token)
-      → keyword.kind ≡ Word word.Node → name.kind ≡ Name
-      → ReadsEnclosed text is input (returns ∷ os) → returns.kind ≡ Word word.Returns
-      → ReadsEnclosed text os output (semicolon ∷ rest) → semicolon.kind ≡ Sign sign.Semicolon
-      → ReadsHeading text (keyword ∷ name ∷ is) (record { at = keyword.start; name = spot text name; input = input; output = output }) rest
-
--- [ 'var' group ';' ] 'let' { item } 'tel'
-pub data ReadsBody (text : List ℕ) : List Token → Body → List Token → Type 0 where
-  r_body : {ts es rest : List Token} {locals : List Group} {items : List Item} (begin finish : Token)
-      → ReadsLocals text ts locals (begin ∷ es) → begin.kind ≡ Word word.Let
-      → Many (ReadsItem text) NoName [] es items (finish ∷ rest) → finish.kind ≡ Word word.Tel
-      → ReadsBody text ts (record { locals = locals; items = items }) rest
-
--- the whole node
-pub data ReadsNode (text : List ℕ) : List Token → Decl → List Token → Type 0 where
-  r_node : {ts mid rest : List Token} {heading : Heading} {body : Body} → ReadsHeading text ts heading mid → ReadsBody text mid body rest → ReadsNode text ts (NodeDecl heading.at heading.name (heading.input ∷ []) (heading.output ∷ []) body.locals body.items) rest
+-- a `pre`, and a `not` behind it
+pub record IsPreNot (t : Token) (ts : List Token) : Type 0 where
+  pub is_pre : t.kind ≡ Word word.Pre
+  pub is_not : Begins ts (Word word.Not)

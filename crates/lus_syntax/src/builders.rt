@@ -1,11 +1,11 @@
-ghost use Rattle.std.specs.Prelude.{◌≡◌, IfOk};
-ghost use Rattle.lus_syntax.specs.Grammar.{node, spelling, spot};
-ghost use Rattle.lus_syntax.specs.Reading.{atom};
+ghost use Rattle.std.specs.Prelude.{◌≡◌, List, ℕ, [], ◌∷◌, ◌++◌, IfOk, OnOk};
+ghost use Rattle.lus_syntax.specs.Grammar.{node, spelling, spot, literal};
+ghost use Rattle.lus_syntax.specs.declared.token.TokenKind.TheVariants.{Name};
 
 use crate::ast::{BinOp, Expr, ExprKind, Spot, UnOp};
 use crate::token::{Keyword, Token, TokenKind};
 use cov_base::{Memory, Text};
-use sqlite_items::Boxed;
+use sqlite_items::{Boxed, Items};
 use std::alloc::Global;
 
 /// The bytes of a token.
@@ -29,22 +29,8 @@ pub(crate) fn spot_of(alloc: Global, text: &[u8], token: Token) -> Result<Spot, 
     })
 }
 
-/// The expression that a token is alone.
-pub(crate) fn atom_of(alloc: Global, text: &[u8], token: Token) -> Result<Option<Expr>, Memory>
-    ensures { IfOk result (λ e. e ≡ atom text.now token) }
-{
-    match token.kind {
-        TokenKind::Name => {
-            let name = spelled(alloc, text, token)?;
-            Ok(Some(leaf(token.start, ExprKind::Name(name))))
-        }
-        TokenKind::Word(Keyword::True) => Ok(Some(leaf(token.start, ExprKind::Truth(true)))),
-        TokenKind::Word(Keyword::False) => Ok(Some(leaf(token.start, ExprKind::Truth(false)))),
-        _ => Ok(None),
-    }
-}
-
-fn leaf(at: u32, kind: ExprKind) -> Expr
+/// An expression at a place.
+pub(crate) fn leaf(at: u32, kind: ExprKind) -> Expr
     ensures { result ≡ node at kind }
 {
     Expr { at, kind }
@@ -54,21 +40,46 @@ fn leaf(at: u32, kind: ExprKind) -> Expr
 pub(crate) fn one_of(alloc: Global, at: u32, op: UnOp, a: Expr) -> Result<Expr, Memory>
     ensures { IfOk result (λ e. e ≡ node at (ExprKind.One op a)) }
 {
-    match Boxed::new(alloc, a) {
-        Ok(a) => Ok(leaf(at, ExprKind::One(op, a))),
-        Err(_) => Err(Memory),
-    }
+    let a = Boxed::new(alloc, a)?;
+    Ok(leaf(at, ExprKind::One(op, a)))
 }
 
 /// An operator between its operands.
 pub(crate) fn two_of(alloc: Global, at: u32, op: BinOp, a: Expr, b: Expr) -> Result<Expr, Memory>
     ensures { IfOk result (λ e. e ≡ node at (ExprKind.Two op a b)) }
 {
-    match Boxed::new(alloc, a) {
-        Ok(a) => match Boxed::new(alloc, b) {
-            Ok(b) => Ok(leaf(at, ExprKind::Two(op, a, b))),
-            Err(_) => Err(Memory),
-        },
-        Err(_) => Err(Memory),
+    let a = Boxed::new(alloc, a)?;
+    let b = Boxed::new(alloc, b)?;
+    Ok(leaf(at, ExprKind::Two(op, a, b)))
+}
+
+/// An `if`.
+pub(crate) fn cond_of(alloc: Global, at: u32, a: Expr, b: Expr, c: Expr) -> Result<Expr, Memory>
+    ensures { IfOk result (λ e. e ≡ node at (ExprKind.Cond a b c)) }
+{
+    let a = Boxed::new(alloc, a)?;
+    let b = Boxed::new(alloc, b)?;
+    let c = Boxed::new(alloc, c)?;
+    Ok(leaf(at, ExprKind::Cond(a, b, c)))
+}
+
+/// One argument more.
+pub(crate) fn add_argument(arguments: &mut Items<Expr>, argument: Expr) -> Result<(), Memory>
+    ensures { OnOk result (arguments.new ≡ arguments.old ++ argument ∷ []) }
+{
+    arguments.push(argument)?;
+    Ok(())
+}
+
+/// The expression that a token is alone, where it is no name.
+pub(crate) fn literal_of(token: Token) -> Option<Expr>
+    requires { token.kind ≡ Name → ⊥ }
+    ensures { (text : List ℕ) → result ≡ literal text token token.kind }
+{
+    match token.kind {
+        TokenKind::Number(value) => Some(leaf(token.start, ExprKind::Number(value))),
+        TokenKind::Word(Keyword::True) => Some(leaf(token.start, ExprKind::Truth(true))),
+        TokenKind::Word(Keyword::False) => Some(leaf(token.start, ExprKind::Truth(false))),
+        _ => None,
     }
 }

@@ -1,16 +1,14 @@
 ghost use Rattle.std.specs.Prelude.{◌≡◌, ◌≤◌, ℕ, length, IfSome, IfNone};
 ghost use Rattle.lus_syntax.specs.Crowding.{IsCrowd, IsLeastCrowd, is_counted, is_semicolon};
 
+use crate::limits::{MOST_BYTES, MOST_COUNTED};
 use crate::token::{Keyword, Symbol, Token, TokenKind};
 
-/// How many counted tokens may stand between two `;`.
-const LIMIT: u32 = 500;
-
-/// The place, counted from 0, of the first token that is the 501st operator, `=`, `if` or `(`
-/// since the last `;`; `None` where there is none. Takes at most 1,048,576 tokens, time in
-/// proportion to them, and no memory.
+/// The place, counted from 0, of the first token that is an operator, `=`, `if` or `(` behind
+/// `MOST_COUNTED` others since the last `;`; `None` where there is none. Takes at most `MOST_BYTES`
+/// tokens, as many as `lex` gives, time in proportion to them, and no memory.
 pub fn crowded(tokens: &[Token]) -> Option<u32>
-    requires { length tokens.now ≤ 1_048_576 }
+    requires { length tokens.now ≤ MOST_BYTES }
     ensures some { IfSome result (λ place. IsLeastCrowd tokens.now place) }
     ensures none { IfNone result ((place : ℕ) → IsCrowd tokens.now place → ⊥) }
 {
@@ -19,7 +17,7 @@ pub fn crowded(tokens: &[Token]) -> Option<u32>
         if is_semicolon(token.kind) {
             count = 0;
         } else if is_counted(token.kind) {
-            if count == LIMIT {
+            if count == MOST_COUNTED {
                 return Some(place as u32);
             }
             count += 1;

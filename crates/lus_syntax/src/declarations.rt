@@ -1,231 +1,300 @@
-ghost use Rattle.std.specs.Prelude.{◌≡◌, ◌≤◌, [], ◌∷◌, ◌++◌, length, IfOk, OnOk};
-ghost use Rattle.lus_syntax.specs.Reading.{Takes, ReadsNames, ReadsGroup, ReadsEnclosed, ReadsLocals, ReadsRight, ReadsItem, NoName, Many, ReadsHeading, ReadsBody, ReadsNode};
+ghost use Rattle.std.specs.Prelude.{◌≡◌, length, IfOk, IfErr};
+ghost use Rattle.lus_syntax.specs.Grammar.{DerivesDecl, DerivesDecls};
+ghost use Rattle.lus_syntax.specs.Parts.{Parsed};
+ghost use Rattle.lus_syntax.specs.Sections.{Anything, EndsDecl, AtEnd, Choices, TypeParts, MayValue, ConstTail, ConstParts, Closing, Signature, Definition, NodeParts};
 
-use crate::ast::{Decl, Group, Item, Spot};
-use crate::builders::spot_of;
-use crate::expressions::{LOOSEST, ranked};
-use crate::fault::PlainFault;
-use crate::front::{accept, expect};
+use crate::ast::{Decl, Expr, Group, Item, Spot};
+use crate::fault::PartFault;
+use crate::front::{accept, head};
+use crate::groups::{inputs, name, names, opening, outputs, refuse, token, type_name};
+use crate::items::{ended, items};
 use crate::token::{Keyword, Symbol, Token, TokenKind};
-use cov_base::{List, Memory};
+use cov_base::List;
 use std::alloc::Global;
 
-/// What stands before a node's locals.
+/// What stands in front of a node's definition.
 #[derive(Drop)]
 struct Heading {
     at: u32,
     name: Spot,
-    input: Group,
-    output: Group,
+    inputs: List<Group>,
+    outputs: List<Group>,
 }
 
-/// A node's locals and equations.
+/// What a node defines.
 #[derive(Drop)]
 struct Body {
     locals: List<Group>,
     items: List<Item>,
 }
 
-/// Adds an item.
-fn add<T: Drop>(list: &mut List<T>, item: T) -> Result<(), Memory>
-    ensures { OnOk result (list.new ≡ list.old ++ item ∷ []) }
-{
-    match list.push(item) {
-        Ok(()) => Ok(()),
-        Err(_) => Err(Memory),
-    }
+/// What stands behind a constant's name.
+#[derive(Drop)]
+struct Constant {
+    ty: Option<Spot>,
+    value: Option<Expr>,
 }
 
-/// A list of one item.
-pub(crate) fn only<T: Drop>(alloc: Global, item: T) -> Result<List<T>, Memory>
-    ensures { IfOk result (λ list. list ≡ item ∷ []) }
-{
-    let mut list = List::new(alloc);
-    add(&mut list, item)?;
-    Ok(list)
-}
-
-/// Names with commas between.
-fn read_names<'a>(
+/// The names of a type's values, behind its name.
+fn choices<'a>(
     alloc: Global,
     text: &[u8],
     tokens: &'a [Token],
-) -> Result<(List<Spot>, &'a [Token]), PlainFault>
-    ensures { Takes (ReadsNames text.now) tokens.now result }
+) -> Result<(List<Spot>, &'a [Token]), PartFault>
+    ensures { Parsed (Choices text.now) Anything tokens.now result }
 {
-    let (first, mut rest) = expect(tokens, TokenKind::Name)?;
-    let mut names = only(alloc, spot_of(alloc, text, first)?)?;
-    while let Some((_, more)) = accept(rest, TokenKind::Sign(Symbol::Comma)) {
-        let (next, behind) = expect(more, TokenKind::Name)?;
-        add(&mut names, spot_of(alloc, text, next)?)?;
-        rest = behind;
-    }
-    Ok((names, rest))
+    let (_, behind_equals) = token(tokens, TokenKind::Sign(Symbol::Equals))?;
+    let (_, behind_enum) = token(behind_equals, TokenKind::Word(Keyword::Enum))?;
+    let (_, inside) = token(behind_enum, TokenKind::Sign(Symbol::OpenBrace))?;
+    let (choices, behind) = names(alloc, text, inside)?;
+    let (_, last) = token(behind, TokenKind::Sign(Symbol::CloseBrace))?;
+    let (_, rest) = token(last, TokenKind::Sign(Symbol::Semicolon))?;
+    Ok((choices, rest))
 }
 
-/// Names and their type.
-fn read_group<'a>(
+/// A type.
+fn type_decl<'a>(
     alloc: Global,
     text: &[u8],
     tokens: &'a [Token],
-) -> Result<(Group, &'a [Token]), PlainFault>
-    ensures { Takes (ReadsGroup text.now) tokens.now result }
+) -> Result<(Decl, &'a [Token]), PartFault>
+    ensures { Parsed (TypeParts text.now) Anything tokens.now result }
 {
-    let (names, behind_names) = read_names(alloc, text, tokens)?;
-    let (_, behind_colon) = expect(behind_names, TokenKind::Sign(Symbol::Colon))?;
-    let (ty, rest) = expect(behind_colon, TokenKind::Word(Keyword::Bool))?;
-    let ty = spot_of(alloc, text, ty)?;
+    let (keyword, behind_keyword) = token(tokens, TokenKind::Word(Keyword::TypeWord))?;
+    let (name, behind) = name(alloc, text, behind_keyword)?;
+    let (choices, rest) = choices(alloc, text, behind)?;
     Ok((
-        Group {
-            names,
-            ty,
-            clock: None,
+        Decl::TypeDecl {
+            at: keyword.start,
+            name,
+            choices,
         },
         rest,
     ))
 }
 
-/// A group in parentheses.
-fn read_enclosed<'a>(
+/// A constant's value behind its type, if it has one.
+fn value_or_none<'a>(
     alloc: Global,
     text: &[u8],
     tokens: &'a [Token],
-) -> Result<(Group, &'a [Token]), PlainFault>
-    ensures { Takes (ReadsEnclosed text.now) tokens.now result }
+) -> Result<(Option<Expr>, &'a [Token]), PartFault>
+    ensures { Parsed (MayValue text.now) Anything tokens.now result }
 {
-    let (_, inside) = expect(tokens, TokenKind::Sign(Symbol::OpenParen))?;
-    let (inner, behind) = read_group(alloc, text, inside)?;
-    let (_, rest) = expect(behind, TokenKind::Sign(Symbol::CloseParen))?;
-    Ok((inner, rest))
-}
-
-/// The local names, if there are any.
-fn read_locals<'a>(
-    alloc: Global,
-    text: &[u8],
-    tokens: &'a [Token],
-) -> Result<(List<Group>, &'a [Token]), PlainFault>
-    ensures { Takes (ReadsLocals text.now) tokens.now result }
-{
-    match accept(tokens, TokenKind::Word(Keyword::Var)) {
-        None => Ok((List::new(alloc), tokens)),
+    match accept(tokens, TokenKind::Sign(Symbol::Equals)) {
         Some((_, more)) => {
-            let (local, behind) = read_group(alloc, text, more)?;
-            let (_, rest) = expect(behind, TokenKind::Sign(Symbol::Semicolon))?;
-            Ok((only(alloc, local)?, rest))
+            let (value, rest) = ended(alloc, text, more)?;
+            Ok((Some(value), rest))
+        }
+        None => {
+            let (_, rest) = token(tokens, TokenKind::Sign(Symbol::Semicolon))?;
+            Ok((None, rest))
         }
     }
 }
 
-/// The equation of a name, behind the name.
-fn read_right_side<'a>(
+/// A constant's type and value, one of which it has.
+fn type_and_value<'a>(
     alloc: Global,
     text: &[u8],
-    left: Token,
     tokens: &'a [Token],
-) -> Result<(Item, &'a [Token]), PlainFault>
-    ensures takes { Takes (ReadsRight text.now left) tokens.now result }
-    ensures shorter { IfOk result (λ f. length f.1.now ≤ length tokens.now) }
+) -> Result<(Constant, &'a [Token]), PartFault>
+    ensures { Parsed (ConstTail text.now) Anything tokens.now result }
 {
-    let (equals, more) = expect(tokens, TokenKind::Sign(Symbol::Equals))?;
-    let (expr, behind) = ranked(alloc, text, LOOSEST, more)?;
-    let (_, rest) = expect(behind, TokenKind::Sign(Symbol::Semicolon))?;
-    let left = only(alloc, spot_of(alloc, text, left)?)?;
+    match accept(tokens, TokenKind::Sign(Symbol::Equals)) {
+        Some((_, more)) => {
+            let (value, rest) = ended(alloc, text, more)?;
+            Ok((
+                Constant {
+                    ty: None,
+                    value: Some(value),
+                },
+                rest,
+            ))
+        }
+        None => {
+            let (_, behind_colon) = token(tokens, TokenKind::Sign(Symbol::Colon))?;
+            let (ty, behind) = type_name(alloc, text, behind_colon)?;
+            let (value, rest) = value_or_none(alloc, text, behind)?;
+            Ok((
+                Constant {
+                    ty: Some(ty),
+                    value,
+                },
+                rest,
+            ))
+        }
+    }
+}
+
+/// A constant.
+fn const_decl<'a>(
+    alloc: Global,
+    text: &[u8],
+    tokens: &'a [Token],
+) -> Result<(Decl, &'a [Token]), PartFault>
+    ensures { Parsed (ConstParts text.now) Anything tokens.now result }
+{
+    let (keyword, behind_keyword) = token(tokens, TokenKind::Word(Keyword::Const))?;
+    let (name, behind) = name(alloc, text, behind_keyword)?;
+    let (constant, rest) = type_and_value(alloc, text, behind)?;
+    let Constant { ty, value } = constant;
     Ok((
-        Item::Equation {
-            at: equals.start,
-            left,
-            expr,
+        Decl::ConstDecl {
+            at: keyword.start,
+            name,
+            ty,
+            value,
         },
         rest,
     ))
 }
 
-/// Equations, as long as names stand in front.
-fn read_items<'a>(
-    alloc: Global,
-    text: &[u8],
-    tokens: &'a [Token],
-) -> Result<(List<Item>, &'a [Token]), PlainFault>
-    ensures { Takes (Many (ReadsItem text.now) NoName []) tokens.now result }
+/// Nothing, where no `;` and no `.` stands in front.
+fn refuse_signs(tokens: &[Token]) -> Result<(), PartFault>
+    ensures ok { IfOk result (λ _. EndsDecl tokens.now) }
+    ensures begins { IfErr result (λ fault. EndsDecl tokens.now → ⊥) }
+    ensures err { IfErr result (λ fault. fault ≡ PartFault.Stuck (length tokens.now)) }
 {
-    let mut items = List::new(alloc);
-    let mut rest = tokens;
-    while let Some((left, more)) = accept(rest, TokenKind::Name) {
-        let (item, behind) = read_right_side(alloc, text, left, more)?;
-        add(&mut items, item)?;
-        rest = behind;
-    }
-    Ok((items, rest))
+    refuse(tokens, TokenKind::Sign(Symbol::Semicolon))?;
+    refuse(tokens, TokenKind::Sign(Symbol::Dot))
 }
 
-/// A node as far as its locals.
-fn read_heading<'a>(
+/// The sign behind a node's `tel`, if there is one.
+fn closing(tokens: &[Token]) -> Result<(Option<Token>, &[Token]), PartFault>
+    ensures { Parsed Closing EndsDecl tokens.now result }
+{
+    match accept(tokens, TokenKind::Sign(Symbol::Semicolon)) {
+        Some((sign, rest)) => {
+            refuse_signs(rest)?;
+            Ok((Some(sign), rest))
+        }
+        None => match accept(tokens, TokenKind::Sign(Symbol::Dot)) {
+            Some((sign, rest)) => {
+                refuse_signs(rest)?;
+                Ok((Some(sign), rest))
+            }
+            None => Ok((None, tokens)),
+        },
+    }
+}
+
+/// A node as far as its outputs.
+fn signature<'a>(
     alloc: Global,
     text: &[u8],
     tokens: &'a [Token],
-) -> Result<(Heading, &'a [Token]), PlainFault>
-    ensures { Takes (ReadsHeading text.now) tokens.now result }
+) -> Result<(Heading, &'a [Token]), PartFault>
+    ensures { Parsed (Signature text.now) Anything tokens.now result }
 {
-    let (keyword, behind_keyword) = expect(tokens, TokenKind::Word(Keyword::Node))?;
-    let (name, behind_name) = expect(behind_keyword, TokenKind::Name)?;
-    let (input, behind_input) = read_enclosed(alloc, text, behind_name)?;
-    let (_, behind_returns) = expect(behind_input, TokenKind::Word(Keyword::Returns))?;
-    let (output, behind_output) = read_enclosed(alloc, text, behind_returns)?;
-    let (_, rest) = expect(behind_output, TokenKind::Sign(Symbol::Semicolon))?;
-    let name = spot_of(alloc, text, name)?;
+    let (keyword, behind_keyword) = token(tokens, TokenKind::Word(Keyword::Node))?;
+    let (name, behind_name) = name(alloc, text, behind_keyword)?;
+    let (inputs, behind_inputs) = inputs(alloc, text, behind_name)?;
+    let (_, behind_returns) = token(behind_inputs, TokenKind::Word(Keyword::Returns))?;
+    let (outputs, rest) = outputs(alloc, text, behind_returns)?;
     Ok((
         Heading {
             at: keyword.start,
             name,
-            input,
-            output,
+            inputs,
+            outputs,
         },
         rest,
     ))
 }
 
-/// A node from its locals to its end.
-fn read_body<'a>(
+/// A node behind its outputs.
+fn definition<'a>(
     alloc: Global,
     text: &[u8],
     tokens: &'a [Token],
-) -> Result<(Body, &'a [Token]), PlainFault>
-    ensures { Takes (ReadsBody text.now) tokens.now result }
+) -> Result<(Body, &'a [Token]), PartFault>
+    ensures { Parsed (Definition text.now) EndsDecl tokens.now result }
 {
-    let (locals, behind_locals) = read_locals(alloc, text, tokens)?;
-    let (_, inside) = expect(behind_locals, TokenKind::Word(Keyword::Let))?;
-    let (items, behind_items) = read_items(alloc, text, inside)?;
-    let (_, rest) = expect(behind_items, TokenKind::Word(Keyword::Tel))?;
+    let (locals, inside) = opening(alloc, text, tokens)?;
+    let (items, behind_items) = items(alloc, text, inside)?;
+    let (_, behind_tel) = token(behind_items, TokenKind::Word(Keyword::Tel))?;
+    let (_, rest) = closing(behind_tel)?;
     Ok((Body { locals, items }, rest))
 }
 
 /// A node.
-pub(crate) fn read_node<'a>(
+fn node_decl<'a>(
     alloc: Global,
     text: &[u8],
     tokens: &'a [Token],
-) -> Result<(Decl, &'a [Token]), PlainFault>
-    ensures { Takes (ReadsNode text.now) tokens.now result }
+) -> Result<(Decl, &'a [Token]), PartFault>
+    ensures { Parsed (NodeParts text.now) EndsDecl tokens.now result }
 {
-    let (heading, behind) = read_heading(alloc, text, tokens)?;
-    let (body, rest) = read_body(alloc, text, behind)?;
+    let (heading, behind) = signature(alloc, text, tokens)?;
+    let (body, rest) = definition(alloc, text, behind)?;
     let Heading {
         at,
         name,
-        input,
-        output,
+        inputs,
+        outputs,
     } = heading;
     let Body { locals, items } = body;
     Ok((
         Decl::NodeDecl {
             at,
             name,
-            inputs: only(alloc, input)?,
-            outputs: only(alloc, output)?,
+            inputs,
+            outputs,
             locals,
             items,
         },
         rest,
     ))
+}
+
+/// A declaration, where no `;` and no `.` stands behind it.
+fn sealed(decl: Decl, rest: &[Token]) -> Result<(Decl, &[Token]), PartFault>
+    ensures decl { IfOk result (λ f. f.0 ≡ decl) }
+    ensures rest { IfOk result (λ f. f.1.now ≡ rest.now) }
+    ensures ends { IfOk result (λ f. EndsDecl rest.now) }
+    ensures begins { IfErr result (λ fault. EndsDecl rest.now → ⊥) }
+    ensures err { IfErr result (λ fault. fault ≡ PartFault.Stuck (length rest.now)) }
+{
+    match refuse_signs(rest) {
+        Ok(()) => Ok((decl, rest)),
+        Err(fault) => Err(fault),
+    }
+}
+
+/// A declaration.
+fn decl<'a>(
+    alloc: Global,
+    text: &[u8],
+    tokens: &'a [Token],
+) -> Result<(Decl, &'a [Token]), PartFault>
+    ensures { Parsed (DerivesDecl text.now) EndsDecl tokens.now result }
+{
+    if let Some(_) = accept(tokens, TokenKind::Word(Keyword::TypeWord)) {
+        let (decl, rest) = type_decl(alloc, text, tokens)?;
+        return sealed(decl, rest);
+    }
+    if let Some(_) = accept(tokens, TokenKind::Word(Keyword::Const)) {
+        let (decl, rest) = const_decl(alloc, text, tokens)?;
+        return sealed(decl, rest);
+    }
+    node_decl(alloc, text, tokens)
+}
+
+/// Declarations, up to the end of the tokens.
+pub(crate) fn decls<'a>(
+    alloc: Global,
+    text: &[u8],
+    tokens: &'a [Token],
+) -> Result<(List<Decl>, &'a [Token]), PartFault>
+    ensures { Parsed (DerivesDecls text.now) AtEnd tokens.now result }
+{
+    let mut decls = List::new(alloc);
+    let mut rest = tokens;
+    'decls: while let Some(_) = head(rest) {
+        let (next, behind) = decl(alloc, text, rest)?;
+        decls.add(next)?;
+        rest = behind;
+    }
+    Ok((decls, rest))
 }

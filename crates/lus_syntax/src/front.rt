@@ -1,10 +1,10 @@
-ghost use Rattle.std.specs.Prelude.{◌≡◌, ◌↔◌, IsTrue, [], ◌∷◌, MatchOption, IfOk, IfErr};
-ghost use Rattle.lus_syntax.specs.Operators.{binary, unary};
-ghost use Rattle.lus_syntax.specs.Reading.{Lacks, NoUnary, NoBinary};
+ghost use Rattle.std.specs.Prelude.{◌≡◌, ◌≤◌, ◌↔◌, IsTrue, Some, [], ◌∷◌, length, MatchOption, IfOk, IfErr};
+ghost use Rattle.lus_syntax.specs.Operators.{infix_of};
+ghost use Rattle.lus_syntax.specs.Parts.{Lacks};
+ghost use Rattle.lus_syntax.specs.Reading.{front_rank, NoInfix};
 
-use crate::ast::UnOp;
-use crate::fault::PlainFault;
-use crate::operators::{Binary, binary_of, unary_of};
+use crate::fault::PartFault;
+use crate::operators::{Infix, infix_of, operand_rank};
 use crate::token::{Token, TokenKind};
 
 /// The first token and those behind it.
@@ -18,7 +18,8 @@ pub(crate) fn head(tokens: &[Token]) -> Option<(Token, &[Token])>
     }
 }
 
-fn same_kind(a: TokenKind, b: TokenKind) -> bool
+/// Whether two tokens are of one kind, a number's value included.
+pub(crate) fn same_kind(a: TokenKind, b: TokenKind) -> bool
     ensures { IsTrue result ↔ a ≡ b }
 {
     a == b
@@ -37,43 +38,40 @@ pub(crate) fn accept(tokens: &[Token], kind: TokenKind) -> Option<(Token, &[Toke
     }
 }
 
-/// The same, where the grammar takes nothing else.
-pub(crate) fn expect(tokens: &[Token], kind: TokenKind) -> Result<(Token, &[Token]), PlainFault>
+/// The same, where the grammar goes on with nothing else.
+pub(crate) fn expect(tokens: &[Token], kind: TokenKind) -> Result<(Token, &[Token]), PartFault>
     ensures whole { IfOk result (λ f. tokens.now ≡ f.0 ∷ f.1.now) }
     ensures kind { IfOk result (λ f. f.0.kind ≡ kind) }
     ensures lacks { IfErr result (λ fault. Lacks tokens.now kind) }
-    ensures err { IfErr result (λ fault. fault ≡ PlainFault.NotPlain) }
+    ensures err { IfErr result (λ fault. fault ≡ PartFault.Stuck (length tokens.now)) }
 {
     match accept(tokens, kind) {
         Some(front) => Ok(front),
-        None => Err(PlainFault::NotPlain),
+        None => Err(PartFault::Stuck(tokens.len())),
     }
 }
 
-/// The first token, where it is an operator of this rank before an operand, and the tokens behind.
-pub(crate) fn unary_in_front(tokens: &[Token], rank: u8) -> Option<(Token, UnOp, &[Token])>
-    ensures whole { MatchOption result (NoUnary rank tokens.now) (λ f. tokens.now ≡ f.0 ∷ f.2.now) }
-    ensures op { MatchOption result (NoUnary rank tokens.now) (λ f. unary f.0.kind ≡ Some (record { rank = rank; op = f.1 })) }
+/// The rank of an operand that begins so, 0 where there is no token.
+pub(crate) fn front_rank(tokens: &[Token]) -> u8
+    ensures { result ≡ front_rank tokens.now }
 {
-    let (first, more) = head(tokens)?;
-    let unary = unary_of(first.kind)?;
-    if unary.rank == rank {
-        Some((first, unary.op, more))
-    } else {
-        None
+    match head(tokens) {
+        None => 0,
+        Some((first, _)) => operand_rank(first.kind),
     }
 }
 
-/// The first token, where it is an operator of this rank between operands, and the tokens behind.
-pub(crate) fn binary_in_front(tokens: &[Token], rank: u8) -> Option<(Token, Binary, &[Token])>
-    ensures whole { MatchOption result (NoBinary rank tokens.now) (λ f. tokens.now ≡ f.0 ∷ f.2.now) }
-    ensures op { MatchOption result (NoBinary rank tokens.now) (λ f. binary f.0.kind ≡ Some f.1) }
-    ensures rank { MatchOption result (NoBinary rank tokens.now) (λ f. f.1.rank ≡ rank) }
+/// The first token, where it is an operator between operands of this rank or a lower one, and the
+/// tokens behind.
+pub(crate) fn infix_in_front(tokens: &[Token], rank: u8) -> Option<(Token, Infix, &[Token])>
+    ensures whole { MatchOption result (NoInfix rank tokens.now) (λ f. tokens.now ≡ f.0 ∷ f.2.now) }
+    ensures op { MatchOption result (NoInfix rank tokens.now) (λ f. infix_of f.0.kind ≡ Some f.1) }
+    ensures rank { MatchOption result (NoInfix rank tokens.now) (λ f. f.1.rank ≤ rank) }
 {
     let (first, more) = head(tokens)?;
-    let binary = binary_of(first.kind)?;
-    if binary.rank == rank {
-        Some((first, binary, more))
+    let infix = infix_of(first.kind)?;
+    if infix.rank <= rank {
+        Some((first, infix, more))
     } else {
         None
     }

@@ -1,10 +1,12 @@
 ghost use Rattle.std.specs.Prelude.{◌≡◌, ◌≤◌, ℕ, List as Seq, length, IfOk, IfErr};
-ghost use Rattle.lus_syntax.specs.Cuts.{Cuts, Fails, IsCutOnce, IsCutOrFault, IsOneFault};
+ghost use Rattle.lus_syntax.specs.Cuts.{Cuts, Fails, IsCutOnce, IsUncutAtFault, IsOneFault};
 ghost use Rattle.lus_syntax.specs.Pieces.{fault_at};
+ghost use Rattle.lus_syntax.specs.declared.lexer.LexFault.TheVariants as fault;
 
+use crate::limits::MOST_BYTES;
 use crate::pieces::{Cause, Piece, next_piece};
 use crate::token::Token;
-use cov_base::List;
+use cov_base::{List, Memory};
 use std::alloc::Global;
 
 /// Why a text can't be cut into tokens, blanks and comments. A place is a byte of the text, counted
@@ -21,11 +23,21 @@ pub enum LexFault {
     Memory,
 }
 
-/// The tokens of a text of at most 1,048,576 bytes, each the longest that fits, without the blanks
-/// and comments between them. Takes time and memory in proportion to the text.
+impl From<Memory> for LexFault {
+    ghost from_gives = { λ _ e. e ≡ fault.Memory };
+
+    fn from(_memory: Memory) -> LexFault {
+        LexFault::Memory
+    }
+}
+
+/// The tokens of a text of at most `MOST_BYTES` bytes, each the longest that fits, without the
+/// blanks and comments between them. Takes time and memory in proportion to the text.
 pub fn lex(alloc: Global, text: &[u8]) -> Result<List<Token>, LexFault>
-    requires { length text.now ≤ 1_048_576 }
+    requires { length text.now ≤ MOST_BYTES }
     ensures tokens { IfOk result (λ tokens. Cuts text.now 0 tokens (length text.now)) }
+    // So the tokens of a text that `lex` takes are few enough for `crowded`.
+    ensures count { IfOk result (λ tokens. length tokens ≤ length text.now) }
     ensures fault { IfErr result (λ fault. Fails text.now fault) }
 {
     let mut tokens = List::new(alloc);
@@ -33,16 +45,13 @@ pub fn lex(alloc: Global, text: &[u8]) -> Result<List<Token>, LexFault>
     while at < text.len() {
         match next_piece(text.split_at(at).1) {
             Ok(Piece::Gap(len)) => at += len,
-            Ok(Piece::Lexeme(len, kind)) => {
-                let token = Token {
+            Ok(Piece::Token(len, kind)) => {
+                tokens.add(Token {
                     kind,
                     start: at as u32,
                     end: (at + len) as u32,
-                };
-                match tokens.push(token) {
-                    Ok(()) => at += len,
-                    Err(_) => return Err(LexFault::Memory),
-                }
+                })?;
+                at += len;
             }
             Err(cause) => return Err(fault_at(cause, at as u32)),
         }
@@ -65,7 +74,7 @@ fn fault_at(cause: Cause, at: u32) -> LexFault
 /// text that can be cut fails of memory alone, and a text has one fault at most beside that.
 pub fn one_cutting()
     ensures once { (text : Seq ℕ) → IsCutOnce text }
-    ensures cut_or_fault { (text : Seq ℕ) → IsCutOrFault text }
+    ensures no_cut_at_fault { (text : Seq ℕ) → IsUncutAtFault text }
     ensures one_fault { (text : Seq ℕ) → IsOneFault text }
 {}
 

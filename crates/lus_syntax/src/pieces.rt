@@ -1,28 +1,29 @@
 ghost use Rattle.std.specs.Prelude.{◌≡◌, ◌+◌, ◌<◌, ◌≤◌, ◌^◌, ℕ, true, false, length, drop, take, slice_index, IfSome, IfNone, MatchOption};
 ghost use Rattle.std.specs.Char.{is_ascii_digit};
-ghost use Rattle.lus_syntax.specs.Words.{is_letter, is_part, same, word_of, name_or, one_sign, two_signs, pair_of, value_from};
+ghost use Rattle.lus_syntax.specs.Words.{is_letter, is_part, word_of, name_or, single_of, pair_of, number_of, value_from};
 ghost use Rattle.lus_syntax.specs.Cuts.{IsLongest, IsNarrow, NoToken, is_blank, is_blank_first, begins, IsLine, IsClose, IsDense, closes_block};
 ghost use Rattle.lus_syntax.specs.Pieces.{Begins};
 
-use crate::token::{Keyword, Symbol, TokenKind};
+use crate::spellings::{sign_of, word_of};
+use crate::token::{Symbol, TokenKind};
 
 /// What a text begins with, and its length in bytes: a blank or a comment, or a token.
 #[derive(Clone, Copy, Debug)]
-pub enum Piece {
+pub(crate) enum Piece {
     Gap(usize),
-    Lexeme(usize, TokenKind),
+    Token(usize, TokenKind),
 }
 
 /// Why a text begins with no piece.
 #[derive(Clone, Copy, Debug)]
-pub enum Cause {
+pub(crate) enum Cause {
     BadByte,
     OpenComment,
     WideLiteral,
 }
 
 /// The piece that a text begins with. Where a comment begins, no sign does.
-pub fn next_piece(rest: &[u8]) -> Result<Piece, Cause>
+pub(crate) fn next_piece(rest: &[u8]) -> Result<Piece, Cause>
     requires { 0 < length rest.now }
     ensures { Begins rest.now result }
 {
@@ -103,22 +104,22 @@ fn token(rest: &[u8]) -> Result<Piece, Cause>
 {
     if is_letter(rest[0]) {
         let len = name_len(rest);
-        Ok(Piece::Lexeme(len, named(rest.split_at(len).0)))
+        Ok(Piece::Token(len, named(rest.split_at(len).0)))
     } else if rest[0].is_ascii_digit() {
         let len = digits_len(rest);
         match value(rest.split_at(len).0) {
-            Some(number) => Ok(Piece::Lexeme(len, TokenKind::Number(number))),
+            Some(number) => Ok(Piece::Token(len, TokenKind::Number(number))),
             None => Err(Cause::WideLiteral),
         }
     } else {
         match sign(rest) {
-            Some((len, symbol)) => Ok(Piece::Lexeme(len, TokenKind::Sign(symbol))),
+            Some((len, symbol)) => Ok(Piece::Token(len, TokenKind::Sign(symbol))),
             None => Err(Cause::BadByte),
         }
     }
 }
 
-#[tactic(auto, using(crate::proofs::Lexemes::name_longest))]
+#[tactic(auto, using(crate::proofs::LongestTokens::name_longest))]
 fn name_len(rest: &[u8]) -> usize
     requires some { 0 < length rest.now }
     requires first { is_letter (slice_index rest.now 0) ≡ true }
@@ -131,7 +132,7 @@ fn name_len(rest: &[u8]) -> usize
     len
 }
 
-#[tactic(auto, using(crate::proofs::Lexemes::digits_longest))]
+#[tactic(auto, using(crate::proofs::LongestTokens::digits_longest))]
 fn digits_len(rest: &[u8]) -> usize
     requires some { 0 < length rest.now }
     requires no_letter { is_letter (slice_index rest.now 0) ≡ false }
@@ -146,9 +147,9 @@ fn digits_len(rest: &[u8]) -> usize
 }
 
 /// The number that the digits write, if it is below 2^128.
-#[tactic(auto, using(crate::proofs::Lexemes::value_grows))]
+#[tactic(auto, using(crate::proofs::LongestTokens::value_grows))]
 fn value(digits: &[u8]) -> Option<u128>
-    ensures { MatchOption result (2 ^ 128 ≤ value_from 0 digits.now) (λ v. v ≡ value_from 0 digits.now) }
+    ensures { MatchOption result (2 ^ 128 ≤ number_of digits.now) (λ v. v ≡ number_of digits.now) }
 {
     let mut sum: u128 = 0;
     for byte in digits {
@@ -167,122 +168,19 @@ fn named(bytes: &[u8]) -> TokenKind
     ensures narrow { IsNarrow result }
     ensures value { result ≡ name_or (word_of bytes.now) }
 {
-    match keyword(bytes) {
+    match word_of(bytes) {
         Some(word) => TokenKind::Word(word),
         None => TokenKind::Name,
     }
 }
 
-fn is(bytes: &[u8], word: &[u8]) -> bool
-    ensures { result ≡ same bytes.now word.now }
+fn single(rest: &[u8]) -> Option<Symbol>
+    ensures { result ≡ single_of rest.now }
 {
-    bytes == word
-}
-
-#[tactic(auto, unfolding(crate::specs::Words::word_of))]
-fn keyword(bytes: &[u8]) -> Option<Keyword>
-    ensures { result ≡ word_of bytes.now }
-{
-    if is(bytes, b"and") {
-        Some(Keyword::And)
-    } else if is(bytes, b"assert") {
-        Some(Keyword::Assert)
-    } else if is(bytes, b"bool") {
-        Some(Keyword::Bool)
-    } else if is(bytes, b"const") {
-        Some(Keyword::Const)
-    } else if is(bytes, b"current") {
-        Some(Keyword::Current)
-    } else if is(bytes, b"div") {
-        Some(Keyword::Div)
-    } else if is(bytes, b"else") {
-        Some(Keyword::Else)
-    } else if is(bytes, b"enum") {
-        Some(Keyword::Enum)
-    } else if is(bytes, b"false") {
-        Some(Keyword::False)
-    } else if is(bytes, b"fby") {
-        Some(Keyword::Fby)
-    } else if is(bytes, b"if") {
-        Some(Keyword::If)
-    } else if is(bytes, b"int") {
-        Some(Keyword::Int)
-    } else if is(bytes, b"let") {
-        Some(Keyword::Let)
-    } else if is(bytes, b"mod") {
-        Some(Keyword::Mod)
-    } else if is(bytes, b"node") {
-        Some(Keyword::Node)
-    } else if is(bytes, b"nor") {
-        Some(Keyword::Nor)
-    } else if is(bytes, b"not") {
-        Some(Keyword::Not)
-    } else if is(bytes, b"or") {
-        Some(Keyword::Or)
-    } else if is(bytes, b"pre") {
-        Some(Keyword::Pre)
-    } else if is(bytes, b"real") {
-        Some(Keyword::Real)
-    } else if is(bytes, b"returns") {
-        Some(Keyword::Returns)
-    } else if is(bytes, b"tel") {
-        Some(Keyword::Tel)
-    } else if is(bytes, b"then") {
-        Some(Keyword::Then)
-    } else if is(bytes, b"true") {
-        Some(Keyword::True)
-    } else if is(bytes, b"type") {
-        Some(Keyword::TypeWord)
-    } else if is(bytes, b"var") {
-        Some(Keyword::Var)
-    } else if is(bytes, b"when") {
-        Some(Keyword::When)
-    } else if is(bytes, b"xor") {
-        Some(Keyword::Xor)
-    } else {
+    if rest.is_empty() {
         None
-    }
-}
-
-#[tactic(auto, unfolding(crate::specs::Words::one_sign))]
-fn one_sign(byte: u8) -> Option<Symbol>
-    ensures { result ≡ one_sign byte }
-{
-    match byte {
-        b'(' => Some(Symbol::OpenParen),
-        b')' => Some(Symbol::CloseParen),
-        b'{' => Some(Symbol::OpenBrace),
-        b'}' => Some(Symbol::CloseBrace),
-        b',' => Some(Symbol::Comma),
-        b';' => Some(Symbol::Semicolon),
-        b':' => Some(Symbol::Colon),
-        b'.' => Some(Symbol::Dot),
-        b'=' => Some(Symbol::Equals),
-        b'<' => Some(Symbol::Less),
-        b'>' => Some(Symbol::Greater),
-        b'+' => Some(Symbol::Plus),
-        b'-' => Some(Symbol::Minus),
-        b'*' => Some(Symbol::Times),
-        _ => None,
-    }
-}
-
-#[tactic(auto, unfolding(crate::specs::Words::two_signs))]
-fn two_signs(first: u8, second: u8) -> Option<Symbol>
-    ensures { result ≡ two_signs first second }
-{
-    if first == b'<' && second == b'>' {
-        Some(Symbol::NotEqual)
-    } else if first == b'<' && second == b'=' {
-        Some(Symbol::LessEqual)
-    } else if first == b'>' && second == b'=' {
-        Some(Symbol::GreaterEqual)
-    } else if first == b'=' && second == b'>' {
-        Some(Symbol::Implies)
-    } else if first == b'-' && second == b'>' {
-        Some(Symbol::Arrow)
     } else {
-        None
+        sign_of(rest.split_at(1).0)
     }
 }
 
@@ -292,11 +190,11 @@ fn pair(rest: &[u8]) -> Option<Symbol>
     if rest.len() < 2 {
         None
     } else {
-        two_signs(rest[0], rest[1])
+        sign_of(rest.split_at(2).0)
     }
 }
 
-#[tactic(auto, using(crate::proofs::Lexemes::two_longest, crate::proofs::Lexemes::one_longest, crate::proofs::Lexemes::no_sign))]
+#[tactic(auto, using(crate::proofs::LongestTokens::two_longest, crate::proofs::LongestTokens::one_longest, crate::proofs::LongestTokens::no_sign))]
 fn sign(rest: &[u8]) -> Option<(usize, Symbol)>
     requires some { 0 < length rest.now }
     requires no_letter { is_letter (slice_index rest.now 0) ≡ false }
@@ -306,7 +204,7 @@ fn sign(rest: &[u8]) -> Option<(usize, Symbol)>
 {
     match pair(rest) {
         Some(symbol) => Some((2, symbol)),
-        None => match one_sign(rest[0]) {
+        None => match single(rest) {
             Some(symbol) => Some((1, symbol)),
             None => None,
         },

@@ -1,5 +1,5 @@
 -- The readers that a search by edge and port has found so far.
-use Rattle.std.proofs.Common.{◌≡◌, ◌≢◌, ◌⊎◌, ◌↔◌, inl, inr, ⊎_elim, ℕ, zero, suc, ◌+◌, ◌<◌, ◌≤◌, List, [], ◌∷◌, ◌++◌, Option, Some, None, length, get_or, slice_get, refl, ap, sym, ◌∙◌, subst, arith, Contains, AllPairs}
+use Rattle.std.proofs.Common.{◌≡◌, ◌≢◌, ◌⊎◌, inl, inr, ⊎_elim, ℕ, ◌+◌, ◌<◌, ◌≤◌, List, [], ◌∷◌, ◌++◌, Option, Some, None, length, get_or, slice_get, refl, ap, sym, ◌∙◌, subst, arith, Contains}
 use Rattle.std.proofs.lemmas.List.Elements.{Contains-push, Contains-push_cases, Contains-append_left, Contains-get_or}
 use Rattle.std.proofs.lemmas.List.Quantifiers.{all_pairs_push}
 use Rattle.std.proofs.lemmas.Option.{slice_get_within}
@@ -7,9 +7,9 @@ use Rattle.std.proofs.lemmas.Bool.{cases_eq}
 use Rattle.op_network.specs.declared.edge.Edge.{Edge}
 use Rattle.op_network.specs.declared.edge.EdgeId.{EdgeId}
 use Rattle.op_network.specs.Operators.{operands_of, operands_in}
-use Rattle.op_network.specs.Readers.{ReaderBefore, Reads, AreReaders, AreReadersBelow}
+use Rattle.op_network.specs.Readers.{ReaderBefore, Reads, IsReaderList, IsReaderListBelow}
 
-pub below_nothing : (edges : List Edge) (e : EdgeId) → AreReadersBelow edges e 0 0 []
+pub below_nothing : (edges : List Edge) (e : EdgeId) → IsReaderListBelow edges e 0 0 []
 below_nothing edges e = record {
   each = λ r. ((λ h. absurd (omega (arith, h.1))), (λ h. elim h.0 [ inl a ↦ absurd (omega arith) | inr a ↦ absurd (omega (arith, a.1)) ]));
   order = λ i j d lt within. absurd (omega arith);
@@ -28,9 +28,9 @@ one_more : (r : EdgeId × ℕ) (i p : ℕ) → ReaderBefore r (record { 0 = i },
 one_more r i p h = elim h [ inl a ↦ inl a | inr a ↦ inr (a.0, omega (arith, a.1)) ]
 
 -- the next port reads the edge
-pub below_pushed : (edges : List Edge) (e reader : EdgeId) (p : ℕ) (old new : List (EdgeId × ℕ)) → AreReadersBelow edges e reader.0 p old
-    → slice_get (operands_of edges reader) p ≡ Some e → new ≡ old ++ (reader, p) ∷ [] → AreReadersBelow edges e reader.0 (p + 1) new
-below_pushed edges e reader p old new h reads is = subst (AreReadersBelow edges e reader.0 (p + 1)) (sym is) (record {
+pub below_pushed : (edges : List Edge) (e reader : EdgeId) (p : ℕ) (old new : List (EdgeId × ℕ)) → IsReaderListBelow edges e reader.0 p old
+    → slice_get (operands_of edges reader) p ≡ Some e → new ≡ old ++ (reader, p) ∷ [] → IsReaderListBelow edges e reader.0 (p + 1) new
+below_pushed edges e reader p old new h reads is = subst (IsReaderListBelow edges e reader.0 (p + 1)) (sym is) (record {
   each = λ r. (
     (λ has. elim (Contains-push_cases old (reader, p) r has) [
       | inl before ↦ let k = (h.each r).0 before in (one_more r reader.0 p k.0, k.1)
@@ -45,8 +45,8 @@ below_pushed edges e reader p old new h reads is = subst (AreReadersBelow edges 
 })
 
 -- the next port does not read the edge
-pub below_skipped : (edges : List Edge) (e reader : EdgeId) (p : ℕ) (readers : List (EdgeId × ℕ)) → AreReadersBelow edges e reader.0 p readers
-    → slice_get (operands_of edges reader) p ≢ Some e → AreReadersBelow edges e reader.0 (p + 1) readers
+pub below_skipped : (edges : List Edge) (e reader : EdgeId) (p : ℕ) (readers : List (EdgeId × ℕ)) → IsReaderListBelow edges e reader.0 p readers
+    → slice_get (operands_of edges reader) p ≢ Some e → IsReaderListBelow edges e reader.0 (p + 1) readers
 below_skipped edges e reader p readers h other = record {
   each = λ r. (
     (λ has. let k = (h.each r).0 has in (one_more r reader.0 p k.0, k.1)),
@@ -59,8 +59,8 @@ below_skipped edges e reader p readers h other = record {
 }
 
 -- all ports of an edge have been seen
-pub below_next : (edges : List Edge) (e reader : EdgeId) (p : ℕ) (readers : List (EdgeId × ℕ)) → AreReadersBelow edges e reader.0 p readers
-    → length (operands_of edges reader) ≤ p → AreReadersBelow edges e (reader.0 + 1) 0 readers
+pub below_next : (edges : List Edge) (e reader : EdgeId) (p : ℕ) (readers : List (EdgeId × ℕ)) → IsReaderListBelow edges e reader.0 p readers
+    → length (operands_of edges reader) ≤ p → IsReaderListBelow edges e (reader.0 + 1) 0 readers
 below_next edges e reader p readers h all = record {
   each = λ r. (
     (λ has. let k = (h.each r).0 has in (elim k.0 [ inl a ↦ inl (omega arith) | inr a ↦ inl (omega (arith, a.0)) ], k.1)),
@@ -80,7 +80,7 @@ some_edge None edges i p e is h = cc
 some_edge (Some edge) edges i p e is h = slice_get_within edges i edge is
 
 -- all edges have been seen
-pub below_all : (edges : List Edge) (e : EdgeId) (n : ℕ) (readers : List (EdgeId × ℕ)) → AreReadersBelow edges e n 0 readers → length edges ≤ n → AreReaders edges e readers
+pub below_all : (edges : List Edge) (e : EdgeId) (n : ℕ) (readers : List (EdgeId × ℕ)) → IsReaderListBelow edges e n 0 readers → length edges ≤ n → IsReaderList edges e readers
 below_all edges e n readers h all = record {
   each = λ r. (
     (λ has. ((h.each r).0 has).1),

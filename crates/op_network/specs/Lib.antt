@@ -1,5 +1,6 @@
+pub mod Values
 pub mod Operators
 pub mod Run
-pub mod Steps
 pub mod Valid
 pub mod Readers
+pub mod Admissible

@@ -13,11 +13,11 @@ abbrev pub Reads : List Edge → EdgeId × ℕ → EdgeId → Type 0
 Reads edges r e = slice_get (operands_of edges r.0) r.1 ≡ Some e
 
 -- exactly the ports whose operand is the edge, each once and in order
-pub record AreReaders (edges : List Edge) (e : EdgeId) (readers : List (EdgeId × ℕ)) : Type 0 where
+pub record IsReaderList (edges : List Edge) (e : EdgeId) (readers : List (EdgeId × ℕ)) : Type 0 where
   pub each : (r : EdgeId × ℕ) → Contains readers r ↔ Reads edges r e
   pub order : AllPairs ReaderBefore readers
 
 -- the readers before a port of an edge
-pub record AreReadersBelow (edges : List Edge) (e : EdgeId) (i p : ℕ) (readers : List (EdgeId × ℕ)) : Type 0 where
+pub record IsReaderListBelow (edges : List Edge) (e : EdgeId) (i p : ℕ) (readers : List (EdgeId × ℕ)) : Type 0 where
   pub each : (r : EdgeId × ℕ) → Contains readers r ↔ (ReaderBefore r (record { 0 = i }, p) × Reads edges r e)
   pub order : AllPairs ReaderBefore readers

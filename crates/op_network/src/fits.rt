@@ -5,14 +5,15 @@ ghost use Rattle.op_network.specs.Run.{rows};
 ghost use Rattle.op_network.specs.Valid.{type_of as type_at, HasType, FitsInput, FitsRow, FitsTest};
 
 use crate::edge::{EdgeId, Parts};
+use crate::limits::{LEAST_WIDTH, MOST_WIDTH};
 use crate::test::Test;
 use crate::valid::{has_type, type_of};
 use crate::value::Value;
 
 /// Whether a value is of the type of an input.
 fn fits_input(parts: &Parts, input: EdgeId, value: Value) -> bool
-    requires some { 1 ≤ parts.now.width }
-    requires small { parts.now.width ≤ 32 }
+    requires narrowest { LEAST_WIDTH ≤ parts.now.width }
+    requires widest { parts.now.width ≤ MOST_WIDTH }
     ensures { IsTrue result ↔ FitsInput parts.now input value }
 {
     match type_of(parts.edges.as_slice(), input) {
@@ -23,8 +24,8 @@ fn fits_input(parts: &Parts, input: EdgeId, value: Value) -> bool
 
 /// Whether a row has a value of each input's type.
 fn fits_row(parts: &Parts, row: &[Value]) -> bool
-    requires some { 1 ≤ parts.now.width }
-    requires small { parts.now.width ≤ 32 }
+    requires narrowest { LEAST_WIDTH ≤ parts.now.width }
+    requires widest { parts.now.width ≤ MOST_WIDTH }
     ensures { IsTrue result ↔ FitsRow parts.now row.now }
 {
     let inputs = parts.inputs.as_slice();
@@ -44,10 +45,11 @@ fn is_size(len: usize, instants: u32, width: usize) -> bool
 
 /// Whether each row of the values fits.
 fn fit_rows(parts: &Parts, instants: u32, values: &[Value]) -> bool
-    requires some { 1 ≤ parts.now.width }
-    requires small { parts.now.width ≤ 32 }
+    requires narrowest { LEAST_WIDTH ≤ parts.now.width }
+    requires widest { parts.now.width ≤ MOST_WIDTH }
     requires size { length values.now ≡ instants * length parts.now.inputs }
-    ensures { IsTrue result ↔ All (FitsRow parts.now) (rows (length parts.now.inputs) instants values.now) }
+    ensures { IsTrue result
+        ↔ All (FitsRow parts.now) (rows (length parts.now.inputs) instants values.now) }
 {
     let width = parts.inputs.len();
     if width == 0 {
@@ -66,8 +68,8 @@ fn fit_rows(parts: &Parts, instants: u32, values: &[Value]) -> bool
 
 /// Whether a test has at least one instant, and at each a value of each input's type.
 pub(crate) fn fits(parts: &Parts, test: &Test) -> bool
-    requires some { 1 ≤ parts.now.width }
-    requires small { parts.now.width ≤ 32 }
+    requires narrowest { LEAST_WIDTH ≤ parts.now.width }
+    requires widest { parts.now.width ≤ MOST_WIDTH }
     ensures { IsTrue result ↔ FitsTest parts.now test.now }
 {
     let values = test.values.as_slice();

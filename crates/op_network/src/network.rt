@@ -1,6 +1,6 @@
 ghost use Rattle.std.specs.Prelude.{◌≡◌, ◌<◌, ◌↔◌, length, slice_get, IfOk, IsTrue};
 ghost use Rattle.op_network.specs.Operators.{operands_of};
-ghost use Rattle.op_network.specs.Readers.{AreReaders};
+ghost use Rattle.op_network.specs.Readers.{IsReaderList};
 ghost use Rattle.op_network.specs.Valid.{IsValid, FitsTest};
 
 use crate::edge::{EdgeId, Parts};
@@ -46,7 +46,7 @@ impl Network {
         &self.parts
     }
 
-    /// How many ports an edge has: as many as its operator has operands, at most 2. In constant
+    /// How many ports an edge has: as many as its operator has operands, at most 3. In constant
     /// time.
     pub fn ports(&self, e: EdgeId) -> u8
         requires { e.0 < length self.now.edges }
@@ -62,13 +62,13 @@ impl Network {
         ensures operand { slice_get (operands_of self.now.edges e) port ≡ Some result }
         ensures edge { result.0 < length self.now.edges }
     {
-        operand_within(self.parts.edges.as_slice(), e, port)
+        operand_within(self.parts().edges.as_slice(), e, port)
     }
 
     /// The ports whose operand is the edge, by edge and port. Linear in the number of edges.
     pub fn readers(&self, alloc: Global, e: EdgeId) -> Result<List<(EdgeId, u8)>, Memory>
         requires { e.0 < length self.now.edges }
-        ensures { IfOk result (AreReaders self.now.edges e) }
+        ensures { IfOk result (IsReaderList self.now.edges e) }
     {
         readers(alloc, self.parts.edges.as_slice(), e)
     }

@@ -2,30 +2,17 @@ ghost use Rattle.std.specs.Prelude.{◌≡◌, ◌<◌, [], ◌∷◌, length, s
 ghost use Rattle.op_network.specs.Operators.{operands, operands_of};
 
 use crate::edge::{Edge, EdgeId, Op};
+use crate::form::Form;
 
 /// How many operands an operator has.
 fn arity(op: Op) -> u8
     ensures { result ≡ length (operands op) }
 {
-    match op {
-        Op::Input(_) => 0,
-        Op::Const(_) => 0,
-        Op::Id(_) => 1,
-        Op::Not(_) => 1,
-        Op::And(_, _) => 2,
-        Op::Arrow(_, _) => 2,
-        Op::Pre(_) => 1,
-    }
-}
-
-/// The first operand or the second.
-fn one_of(a: EdgeId, b: EdgeId, port: u8) -> Option<EdgeId>
-    ensures { result ≡ slice_get (a ∷ b ∷ []) port }
-{
-    match port {
-        0 => Some(a),
-        1 => Some(b),
-        _ => None,
+    match op.form() {
+        Form::Input(_) | Form::Const(_) => 0,
+        Form::One(_, _) | Form::Pre(_) => 1,
+        Form::Two(_, _, _) | Form::Arrow(_, _) => 2,
+        Form::Ite(_, _, _) => 3,
     }
 }
 
@@ -35,18 +22,38 @@ fn only(a: EdgeId, port: u8) -> Option<EdgeId>
     if port == 0 { Some(a) } else { None }
 }
 
+/// The first operand or the second.
+fn one_of_two(a: EdgeId, b: EdgeId, port: u8) -> Option<EdgeId>
+    ensures { result ≡ slice_get (a ∷ b ∷ []) port }
+{
+    match port {
+        0 => Some(a),
+        1 => Some(b),
+        _ => None,
+    }
+}
+
+/// The first operand, the second or the third.
+fn one_of_three(a: EdgeId, b: EdgeId, c: EdgeId, port: u8) -> Option<EdgeId>
+    ensures { result ≡ slice_get (a ∷ b ∷ c ∷ []) port }
+{
+    match port {
+        0 => Some(a),
+        1 => Some(b),
+        2 => Some(c),
+        _ => None,
+    }
+}
+
 /// The operand of an operator at a port.
 fn operand_at(op: Op, port: u8) -> Option<EdgeId>
     ensures { result ≡ slice_get (operands op) port }
 {
-    match op {
-        Op::Input(_) => None,
-        Op::Const(_) => None,
-        Op::Id(a) => only(a, port),
-        Op::Not(a) => only(a, port),
-        Op::And(a, b) => one_of(a, b, port),
-        Op::Arrow(a, b) => one_of(a, b, port),
-        Op::Pre(a) => only(a, port),
+    match op.form() {
+        Form::Input(_) | Form::Const(_) => None,
+        Form::One(_, a) | Form::Pre(a) => only(a, port),
+        Form::Two(_, a, b) | Form::Arrow(a, b) => one_of_two(a, b, port),
+        Form::Ite(a, b, c) => one_of_three(a, b, c, port),
     }
 }
 

@@ -1,8 +1,9 @@
 ghost use Rattle.std.specs.Prelude.{◌≡◌, ◌<◌, ◌≤◌, ◌+◌, length, IfOk, OnOk};
 ghost use Rattle.op_network.specs.Operators.{operands_of};
-ghost use Rattle.op_network.specs.Readers.{AreReaders, AreReadersBelow};
+ghost use Rattle.op_network.specs.Readers.{IsReaderList, IsReaderListBelow};
 
 use crate::edge::{Edge, EdgeId};
+use crate::limits::MOST_EDGES;
 use crate::operands::{operand, ports};
 use cov_base::{List, Memory};
 use std::alloc::Global;
@@ -16,14 +17,11 @@ fn add_port(
     found: &mut List<(EdgeId, u8)>,
 ) -> Result<(), Memory>
     requires edge { reader.0 < length edges.now }
-    requires before { AreReadersBelow edges.now e reader.0 port found.old }
-    ensures { OnOk result (AreReadersBelow edges.now e reader.0 (port + 1) found.new) }
+    requires before { IsReaderListBelow edges.now e reader.0 port found.old }
+    ensures { OnOk result (IsReaderListBelow edges.now e reader.0 (port + 1) found.new) }
 {
     if operand(edges, reader, port) == Some(e) {
-        match found.push((reader, port)) {
-            Ok(()) => Ok(()),
-            Err(_) => Err(Memory),
-        }
+        found.add((reader, port))
     } else {
         Ok(())
     }
@@ -37,8 +35,8 @@ fn add_ports(
     found: &mut List<(EdgeId, u8)>,
 ) -> Result<(), Memory>
     requires edge { reader.0 < length edges.now }
-    requires before { AreReadersBelow edges.now e reader.0 0 found.old }
-    ensures { OnOk result (AreReadersBelow edges.now e (reader.0 + 1) 0 found.new) }
+    requires before { IsReaderListBelow edges.now e reader.0 0 found.old }
+    ensures { OnOk result (IsReaderListBelow edges.now e (reader.0 + 1) 0 found.new) }
 {
     for port in 0..ports(edges, reader) {
         add_port(edges, e, reader, port, found)?;
@@ -53,8 +51,8 @@ pub(crate) fn readers(
     edges: &[Edge],
     e: EdgeId,
 ) -> Result<List<(EdgeId, u8)>, Memory>
-    requires { length edges.now ≤ 8192 }
-    ensures { IfOk result (AreReaders edges.now e) }
+    requires { length edges.now ≤ MOST_EDGES }
+    ensures { IfOk result (IsReaderList edges.now e) }
 {
     let mut found = List::new(alloc);
     for reader in 0..edges.len() {

@@ -243,6 +243,26 @@ fn a_suite_has_at_most_a_mebibyte(rt: HostRuntime) -> Result<(), Fail> {
     )
 }
 
+/// A suite of 300 tests of one instant in which x is 1, and what a score of `x and not pre x` prints:
+/// no test has an instant at which the path through `pre` is active.
+fn three_hundred(alloc: Global) -> Result<(Vec<u8>, Vec<u8>), Fail> {
+    let mut suite = String::from_str(alloc, "test,x\n")?;
+    let mut text = String::new(alloc);
+    for number in 0..300 {
+        suite.push_str(format!(in alloc; "t{number},1\n")?.as_str())?;
+        text.push_str(format!(in alloc; "test t{number} 1 1\n")?.as_str())?;
+    }
+    text.push_str("BC 1/2 50.0%\nmissing 2 BC x > y#2:0 > y#1:0 > y:1\n")?;
+    Ok((suite.into_bytes(), text.into_bytes()))
+}
+
+#[test]
+fn a_suite_has_many_tests(rt: HostRuntime) -> Result<(), Fail> {
+    let (suite, text) = three_hundred(rt.alloc())?;
+    let source = b"node d(x: bool) returns (y: bool); let y = x and not pre x; tel";
+    score(&rt, source, suite.as_slice(), "4", text.as_slice())
+}
+
 #[test]
 fn lengths_are_read(rt: HostRuntime) -> Result<(), Fail> {
     let text = b"test a 3 3\nBC 2/2 100.0%\n";

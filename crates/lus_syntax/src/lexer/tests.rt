@@ -3,11 +3,9 @@ use crate::crowding::crowded;
 use crate::token::{Keyword, Symbol, TokenKind};
 use std::test::Fail;
 
-const LIMIT: usize = 1_048_576;
-
 /// Whether the text is cut into tokens of exactly these kinds.
 fn has_kinds(alloc: Global, text: &[u8], kinds: &[TokenKind]) -> bool {
-    if text.len() > LIMIT {
+    if text.len() > MOST_BYTES {
         return false;
     }
     match lex(alloc, text) {
@@ -29,7 +27,7 @@ fn same_kinds(tokens: &[Token], kinds: &[TokenKind]) -> bool {
 }
 
 fn fault_of(alloc: Global, text: &[u8]) -> Option<LexFault> {
-    if text.len() > LIMIT {
+    if text.len() > MOST_BYTES {
         return None;
     }
     match lex(alloc, text) {
@@ -46,13 +44,10 @@ fn crowd_of(alloc: Global, counts: [u32; 3]) -> Result<Option<u32>, Fail> {
         push_ands(&mut text, count)?;
     }
     text.extend_from_slice(b";")?;
-    if text.len() > LIMIT {
+    if text.len() > MOST_BYTES {
         return Ok(None);
     }
     let tokens = lex(alloc, text.as_slice())?;
-    if tokens.len() > LIMIT {
-        return Ok(None);
-    }
     Ok(crowded(tokens.as_slice()))
 }
 
@@ -159,6 +154,7 @@ fn cuttings(rt: HostRuntime) {
         (b"(*)".as_slice(), LexFault::OpenComment(0)),
         (b"a (* *".as_slice(), LexFault::OpenComment(2)),
         (b"a\x00".as_slice(), LexFault::BadByte(1)),
+        (b"(* *)a \xff".as_slice(), LexFault::BadByte(7)),
         (b"a \xc3\xa9".as_slice(), LexFault::BadByte(2)),
         (b"/".as_slice(), LexFault::BadByte(0)),
         (

@@ -77,7 +77,7 @@ fn write_ast(ast: &Ast, into: &mut List<u8>) -> Result<(), Memory> {
 
 /// The right sides that a text has, or why it has none.
 fn read(alloc: Global, text: &[u8]) -> Result<List<u8>, PlainFault> {
-    if text.len() > 1048576 {
+    if text.len() > MOST_BYTES {
         return Err(PlainFault::NotPlain);
     }
     let tokens = tokens_of(alloc, text)?;

@@ -1,9 +1,14 @@
-ghost use Rattle.std.specs.Prelude.{◌≡◌, ◌≢◌, ◌≤◌, ◌<◌, ◌↔◌, ℕ, length, IsTrue, All, AllPairs, Any, take};
+ghost use Rattle.std.specs.Prelude.{◌≡◌, ◌≢◌, ◌≤◌, ◌↔◌, length, slice_index, IsTrue, All, AllPairs, Any, EachIndex};
+ghost use Rattle.std.specs.Cmp.Lexicographic.{slice_cmp};
+ghost use Rattle.std.specs.Ordering.{nat_cmp};
+ghost use Rattle.std.specs.List.Sorted.{IsPermutation, IsSortedByKey};
 ghost use Rattle.op_network.specs.declared.edge.Edge.{Edge as EdgeValue};
-ghost use Rattle.op_network.specs.Valid.{IsName, IsChoice};
+ghost use Rattle.op_network.specs.Valid.{IsName, IsChoice, NeighboursDiffer, name_at as spec_name_at};
 
 use crate::edge::{Choice, Edge};
+use crate::limits::{MOST_EDGES, MOST_NAMES};
 use cov_base::Text;
+use std::cmp::Ordering;
 
 /// Whether the bytes are a name.
 fn is_name(name: &[u8]) -> bool
@@ -46,7 +51,7 @@ fn is_choice(choice: &Choice) -> bool
     ensures { IsTrue result ↔ IsChoice choice.now }
 {
     let names = choice.names.as_slice();
-    !names.is_empty() && names.len() <= 256 && are_names(names) && differ(names)
+    !names.is_empty() && names.len() <= MOST_NAMES && are_names(names) && differ(names)
 }
 
 /// Whether each choice has 1 to 256 different names.
@@ -63,21 +68,62 @@ pub(super) fn have_names(edges: &[Edge]) -> bool
     edges.iter().all(|edge| is_name(edge.name.bytes()))
 }
 
-/// Whether an edge has the name.
-fn is_named(name: &Text, edges: &[Edge]) -> bool
-    ensures { IsTrue result ↔ Any (λ (other : EdgeValue). other.name ≡ name.now) edges.now }
+/// The name of the edge at a place, or nothing.
+fn name_at(edges: &[Edge], place: u16) -> &[u8]
+    ensures { result.now ≡ spec_name_at edges.now place }
 {
-    edges.iter().any(|other| other.name.bytes() == name.bytes())
+    match edges.get(place as usize) {
+        Some(edge) => edge.name.bytes(),
+        None => &[],
+    }
 }
 
-/// Whether each two edges have different names.
-pub(super) fn have_different_names(edges: &[Edge]) -> bool
-    ensures { IsTrue result ↔ AllPairs (λ (a b : EdgeValue). a.name ≢ b.name) edges.now }
+/// Writes at each place its number.
+fn number_off(places: &mut [u16])
+    requires { length places.old ≤ MOST_EDGES }
+    ensures { EachIndex places.new (λ k. slice_index places.new k ≡ k) }
 {
-    for place in 0..edges.len() {
-        if is_named(&edges[place].name, &edges[..place]) {
+    for place in 0..places.len() {
+        places[place] = place as u16;
+    }
+}
+
+/// How the names of the edges at two places compare, byte by byte.
+fn by_name(edges: &[Edge], a: u16, b: u16) -> Ordering
+    ensures { result ≡ slice_cmp nat_cmp (spec_name_at edges.now a) (spec_name_at edges.now b) }
+{
+    name_at(edges, a).cmp(name_at(edges, b))
+}
+
+/// Sorts places by the names of their edges.
+fn sort_by_name(edges: &[Edge], places: &mut [u16])
+    ensures moved { IsPermutation places.old places.new }
+    ensures sorted { IsSortedByKey (spec_name_at edges.now) (slice_cmp nat_cmp) places.new }
+{
+    places.sort_unstable_by(|a, b| by_name(edges, *a, *b));
+}
+
+/// Whether the edges at each two neighbouring places have different names.
+fn neighbours_differ(edges: &[Edge], places: &[u16]) -> bool
+    ensures { IsTrue result ↔ NeighboursDiffer edges.now places.now }
+{
+    for i in 1..places.len() {
+        if name_at(edges, places[i - 1]) == name_at(edges, places[i]) {
             return false;
         }
     }
     true
+}
+
+/// Whether each two edges have different names. The places of the edges are sorted by name, so that
+/// equal names are neighbours: n log n comparisons, and no memory is taken.
+pub(super) fn have_different_names(edges: &[Edge]) -> bool
+    requires { length edges.now ≤ MOST_EDGES }
+    ensures { IsTrue result ↔ AllPairs (λ (a b : EdgeValue). a.name ≢ b.name) edges.now }
+{
+    let mut all = [0u16; MOST_EDGES];
+    let places = &mut all[..edges.len()];
+    number_off(places);
+    sort_by_name(edges, places);
+    neighbours_differ(edges, places)
 }

@@ -1,10 +1,11 @@
-ghost use Rattle.std.specs.Prelude.{◌≡◌, ◌≢◌, ◌<◌, ◌≤◌, ◌↔◌, ℕ, length, slice_get, IsTrue, All, AllPairs, option_map};
+ghost use Rattle.std.specs.Prelude.{◌≡◌, ◌≢◌, ◌<◌, ◌≤◌, ◌↔◌, ℕ, length, slice_get, IsTrue, All, AllPairs, false, option_map};
 ghost use Rattle.op_network.specs.declared.edge.EdgeId.{EdgeId as Id};
 ghost use Rattle.op_network.specs.declared.edge.Edge.{Edge as EdgeValue};
 ghost use Rattle.op_network.specs.Valid.{op_of, HasInputs, AreNumbered, AreAllInputs, type_of as type_at};
 
 use super::types::type_of;
 use crate::edge::{Edge, EdgeId, Op};
+use crate::limits::MOST_EDGES;
 use crate::value::Ty;
 
 /// The operator of an edge.
@@ -55,7 +56,8 @@ fn are_numbered(edges: &[Edge], inputs: &[EdgeId]) -> bool
 
 /// Whether an edge, if it is an input, stands at its place among the inputs.
 fn is_placed(inputs: &[EdgeId], op: Op, e: usize) -> bool
-    ensures { IsTrue result ↔ ((i : ℕ) → op ≡ Op.Input i → slice_get inputs.now i ≡ Some (record { 0 = e })) }
+    ensures { IsTrue result
+        ↔ ((i : ℕ) → op ≡ Op.Input i → slice_get inputs.now i ≡ Some (record { 0 = e })) }
 {
     match op {
         Op::Input(input) => is_place_of(inputs, input, e),
@@ -89,19 +91,34 @@ pub(super) fn are_edges(edges: &[Edge], ids: &[EdgeId]) -> bool
 
 /// Whether each is an edge of type `Truth`.
 pub(super) fn are_truths(edges: &[Edge], ids: &[EdgeId]) -> bool
-    ensures { IsTrue result ↔ All (λ (e : Id). type_at edges.now e ≡ Some Ty.Truth) ids.now }
+    ensures truths { IsTrue result ↔ All (λ (e : Id). type_at edges.now e ≡ Some Ty.Truth) ids.now }
+    ensures edges { IsTrue result → All (λ (e : Id). e.0 < length edges.now) ids.now }
 {
     ids.iter().all(|e| type_of(edges, *e) == Some(Ty::Truth))
 }
 
-/// Whether each two edges differ.
-pub(super) fn differ(ids: &[EdgeId]) -> bool
+/// Whether each two edges differ. `met` has no mark yet, and gets one at each edge that is met.
+fn differ_with(ids: &[EdgeId], met: &mut [bool]) -> bool
+    requires edges { All (λ (e : Id). e.0 < length met.old) ids.now }
+    requires unmarked { All (λ mark. mark ≡ false) met.old }
     ensures { IsTrue result ↔ AllPairs (λ (a b : Id). a ≢ b) ids.now }
 {
     for place in 0..ids.len() {
-        if ids[..place].contains(&ids[place]) {
+        let e = ids[place].0 as usize;
+        if met[e] {
             return false;
         }
+        met[e] = true;
     }
     true
+}
+
+/// Whether each two of some edges of a network differ. Linear.
+pub(super) fn differ(edges: &[Edge], ids: &[EdgeId]) -> bool
+    requires few { length edges.now ≤ MOST_EDGES }
+    requires edges { All (λ (e : Id). e.0 < length edges.now) ids.now }
+    ensures { IsTrue result ↔ AllPairs (λ (a b : Id). a ≢ b) ids.now }
+{
+    let mut met = [false; MOST_EDGES];
+    differ_with(ids, &mut met[..edges.len()])
 }

@@ -1,27 +1,24 @@
-ghost use Rattle.std.specs.Prelude.{◌≡◌, ◌<◌, ◌≤◌, ◌-◌, ◌^◌, ◌↔◌, ◌+ℤ◌, ◌≤ℤ◌, ◌<ℤ◌, pos, length, slice_get, IsTrue, All};
+ghost use Rattle.std.specs.Prelude.{◌≡◌, ◌<◌, ◌≤◌, ◌-◌, ◌^◌, ◌↔◌, ◌+ℤ◌, ◌≤ℤ◌, ◌<ℤ◌, pos, length, slice_get, IsTrue};
 ghost use Rattle.op_network.specs.declared.edge.Choice.{Choice as ChoiceValue};
-ghost use Rattle.op_network.specs.declared.edge.Edge.{Edge as EdgeValue};
-ghost use Rattle.op_network.specs.Valid.{type_of as type_at, IsTypeOf, HasType, IsWellTyped, IsWord, IsEnumerator};
+ghost use Rattle.op_network.specs.Valid as spec;
+ghost use Rattle.op_network.specs.Values.{IsWord};
 
 use crate::edge::{Choice, Edge, EdgeId, Op, Parts};
+use crate::form::{Binary, Form, Unary};
+use crate::limits::{LEAST_WIDTH, MOST_WIDTH};
+use crate::types::{arrow_type, binary_type, if_type, unary_type};
 use crate::value::{Ty, Value};
 
 /// The type of an edge.
 pub(crate) fn type_of(edges: &[Edge], e: EdgeId) -> Option<Ty>
-    ensures { result ≡ type_at edges.now e }
+    ensures { result ≡ spec.type_of edges.now e }
 {
     edges.get(e.0 as usize).map(|edge| edge.ty)
 }
 
-fn is_of_type(edges: &[Edge], e: EdgeId, ty: Ty) -> bool
-    ensures { IsTrue result ↔ (type_at edges.now e ≡ Some ty) }
-{
-    type_of(edges, e) == Some(ty)
-}
-
 /// Whether a choice is one of the network's.
 fn is_type(parts: &Parts, ty: Ty) -> bool
-    ensures { IsTrue result ↔ IsTypeOf parts.now ty }
+    ensures { IsTrue result ↔ spec.IsTypeOf parts.now ty }
 {
     match ty {
         Ty::Truth => true,
@@ -32,8 +29,8 @@ fn is_type(parts: &Parts, ty: Ty) -> bool
 
 /// Whether a word is in the range of a width.
 fn is_word(width: u32, word: i32) -> bool
-    requires some { 1 ≤ width }
-    requires small { width ≤ 32 }
+    requires narrowest { LEAST_WIDTH ≤ width }
+    requires widest { width ≤ MOST_WIDTH }
     ensures { IsTrue result ↔ IsWord width word }
 {
     let half = 1i64 << (width - 1);
@@ -42,7 +39,7 @@ fn is_word(width: u32, word: i32) -> bool
 }
 
 fn is_enumerator(choices: &[Choice], choice: u32, value: u8) -> bool
-    ensures { IsTrue result ↔ IsEnumerator choices.now choice value }
+    ensures { IsTrue result ↔ spec.IsEnumerator choices.now choice value }
 {
     match choices.get(choice as usize) {
         Some(choice) => (value as usize) < choice.names.len(),
@@ -52,9 +49,9 @@ fn is_enumerator(choices: &[Choice], choice: u32, value: u8) -> bool
 
 /// Whether a value is of a type.
 pub(crate) fn has_type(parts: &Parts, value: Value, ty: Ty) -> bool
-    requires some { 1 ≤ parts.now.width }
-    requires small { parts.now.width ≤ 32 }
-    ensures { IsTrue result ↔ HasType parts.now value ty }
+    requires narrowest { LEAST_WIDTH ≤ parts.now.width }
+    requires widest { parts.now.width ≤ MOST_WIDTH }
+    ensures { IsTrue result ↔ spec.HasType parts.now value ty }
 {
     match value {
         Value::Truth(_) => matches!(ty, Ty::Truth),
@@ -67,35 +64,56 @@ pub(crate) fn has_type(parts: &Parts, value: Value, ty: Ty) -> bool
     }
 }
 
-/// Whether an operator and its operands have the types that it asks for.
-fn is_well_typed(parts: &Parts, op: Op, ty: Ty) -> bool
-    requires some { 1 ≤ parts.now.width }
-    requires small { parts.now.width ≤ 32 }
-    ensures { IsTrue result ↔ IsWellTyped parts.now op ty }
+/// The type of an operator with one operand. What has no type gives none.
+fn unary_type_of(op: Unary, a: Option<Ty>) -> Option<Ty>
+    ensures { result ≡ spec.unary_type_of op a }
 {
-    let edges = parts.edges.as_slice();
-    match op {
-        Op::Input(_) => is_type(parts, ty),
-        Op::Const(value) => has_type(parts, value, ty),
-        Op::Id(a) => is_of_type(edges, a, ty),
-        Op::Not(a) => is_truth(ty) && is_of_type(edges, a, Ty::Truth),
-        Op::And(a, b) => {
-            is_truth(ty) && is_of_type(edges, a, Ty::Truth) && is_of_type(edges, b, Ty::Truth)
-        }
-        Op::Arrow(a, b) => is_of_type(edges, a, ty) && is_of_type(edges, b, ty),
-        Op::Pre(a) => is_of_type(edges, a, ty),
-    }
+    unary_type(op, a?)
 }
 
-fn is_truth(ty: Ty) -> bool
-    ensures { IsTrue result ↔ (ty ≡ Ty.Truth) }
+fn binary_type_of(op: Binary, a: Option<Ty>, b: Option<Ty>) -> Option<Ty>
+    ensures { result ≡ spec.binary_type_of op a b }
 {
-    matches!(ty, Ty::Truth)
+    binary_type(op, a?, b?)
+}
+
+fn if_type_of(a: Option<Ty>, b: Option<Ty>, c: Option<Ty>) -> Option<Ty>
+    ensures { result ≡ spec.if_type_of a b c }
+{
+    if_type(a?, b?, c?)
+}
+
+fn arrow_type_of(a: Option<Ty>, b: Option<Ty>) -> Option<Ty>
+    ensures { result ≡ spec.arrow_type_of a b }
+{
+    arrow_type(a?, b?)
+}
+
+/// Whether an operator and its operands have the types that it asks for.
+fn is_well_typed(parts: &Parts, op: Op, ty: Ty) -> bool
+    requires narrowest { LEAST_WIDTH ≤ parts.now.width }
+    requires widest { parts.now.width ≤ MOST_WIDTH }
+    ensures { IsTrue result ↔ spec.IsWellTyped parts.now op ty }
+{
+    let edges = parts.edges.as_slice();
+    match op.form() {
+        Form::Input(_) => is_type(parts, ty),
+        Form::Const(value) => has_type(parts, value, ty),
+        Form::One(op, a) => unary_type_of(op, type_of(edges, a)) == Some(ty),
+        Form::Two(op, a, b) => {
+            binary_type_of(op, type_of(edges, a), type_of(edges, b)) == Some(ty)
+        }
+        Form::Ite(a, b, c) => {
+            if_type_of(type_of(edges, a), type_of(edges, b), type_of(edges, c)) == Some(ty)
+        }
+        Form::Arrow(a, b) => arrow_type_of(type_of(edges, a), type_of(edges, b)) == Some(ty),
+        Form::Pre(a) => type_of(edges, a) == Some(ty),
+    }
 }
 
 /// Whether the edges have types of the network.
 pub(super) fn have_types(parts: &Parts) -> bool
-    ensures { IsTrue result ↔ All (λ (edge : EdgeValue). IsTypeOf parts.now edge.ty) parts.now.edges }
+    ensures { IsTrue result ↔ spec.HaveTypes parts.now }
 {
     parts
         .edges
@@ -106,9 +124,9 @@ pub(super) fn have_types(parts: &Parts) -> bool
 
 /// Whether the edges are well typed.
 pub(super) fn are_well_typed(parts: &Parts) -> bool
-    requires some { 1 ≤ parts.now.width }
-    requires small { parts.now.width ≤ 32 }
-    ensures { IsTrue result ↔ All (λ (edge : EdgeValue). IsWellTyped parts.now edge.op edge.ty) parts.now.edges }
+    requires narrowest { LEAST_WIDTH ≤ parts.now.width }
+    requires widest { parts.now.width ≤ MOST_WIDTH }
+    ensures { IsTrue result ↔ spec.AreWellTyped parts.now }
 {
     parts
         .edges

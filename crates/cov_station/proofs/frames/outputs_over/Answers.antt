@@ -7,6 +7,7 @@ use Rattle.cov_station.specs.Frames.{past}
 use Rattle.cov_station.specs.NetworkText.{selected}
 use Rattle.cov_station.proofs.Running.{ran_more, ran_all, ran_as, with_whole, left_size, Ran}
 use Rattle.cov_station.proofs.frames.outputs_over.Goals as goal
+use Rattle.cov_station.specs.Net.{word_width}
 
 pub loop-left-preserved : goal.loop-left-preserved
 loop-left-preserved c =
@@ -15,7 +16,7 @@ loop-left-preserved c =
     let back = c.split_at.ensures.back ∙ ap (λ n. drop n c.loop-left.rest.now) width in
     let before = c.earlier-past.ensures ∙ ap (past c.loop-left.started) c.as_slice.ensures in
     let frame = c.compute_frame.ensures.frame in
-    let is = subst (λ b. IsFrame c.args.network.now.edges b (take (length c.args.network.now.inputs) c.loop-left.rest.now) c.compute_frame.new.now) before (subst (λ row. IsFrame c.args.network.now.edges (option_map (λ b. b.now) c.earlier-past.result) row c.compute_frame.new.now) front frame) in
+    let is = subst (λ b. IsFrame word_width c.args.network.now.edges b (take (length c.args.network.now.inputs) c.loop-left.rest.now) c.compute_frame.new.now) before (subst (λ row. IsFrame word_width c.args.network.now.edges (option_map (λ b. b.now) c.earlier-past.result) row c.compute_frame.new.now) front frame) in
     let whole = with_whole c.loop-left.now c.compute_frame.new.now (frame.size ∙ sym c.loop-left.invariant.now) in
     let outputs = c.as_slice-in-loop-left.ensures ∙ ap (λ (parts : Parts). parts.outputs) c.parts-in-loop-left.ensures.same in
     let values = c.in_ok-select.ensures ∙ ap₂ (λ ids row. c.loop-left.values ++ selected ids row) outputs (c.as_slice-in-loop-left-2.ensures ∙ whole) in

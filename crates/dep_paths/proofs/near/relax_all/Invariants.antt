@@ -1,5 +1,5 @@
 use Rattle.std.proofs.Common.{◌≡◌, length}
-use Rattle.dep_paths.specs.Near.{IsSound, AllNear, NoneRose, AreAllSeen}
+use Rattle.dep_paths.specs.Near.{IsSound, AllNear, NoneRose, CountsEdges}
 use Rattle.dep_paths.proofs.near.relax_all.Given as goal
 
 abbrev pub invariant-loop-edge : goal.invariant-loop-edge
@@ -8,5 +8,5 @@ invariant-loop-edge l = record {
   all : AllNear l.near;
   sound : IsSound l.net l.near;
   lower : NoneRose l.initial.near l.near;
-  seen : AreAllSeen l.net.edges l.edge l.initial.near l.near;
+  counted : CountsEdges l.net.edges l.edge l.initial.near l.near;
 }

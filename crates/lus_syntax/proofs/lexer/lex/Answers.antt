@@ -1,6 +1,6 @@
 use Rattle.std.proofs.Common.{◌+◌, ◌≤◌, length, sym, subst, arith}
 use Rattle.lus_syntax.specs.Cuts.{Cuts, nothing}
-use Rattle.lus_syntax.proofs.Cutting.{skip_within, fits_behind, cuts_skip, cuts_token, gap_of, lexeme_of}
+use Rattle.lus_syntax.proofs.Cutting.{skip_within, fits_behind, cuts_skip, cuts_token, gap_of, token_of, token_count}
 use Rattle.lus_syntax.proofs.lexer.lex.Goals as goal
 
 pub loop-at-init : goal.loop-at-init
@@ -22,8 +22,11 @@ loop-at-preserved-in-Ok-Gap c =
 
 pub loop-at-preserved : goal.loop-at-preserved
 loop-at-preserved c =
-    let t = lexeme_of _ _ _ _ _ (c.in-Ok-Lexeme.ensures) c.in-Ok-Lexeme.field-0-is c.split_at.ensures.back in
+    let t = token_of _ _ _ _ _ (c.in-Ok-Token.ensures) c.in-Ok-Token.field-0-is c.split_at.ensures.back in
     record {
-      cut = subst (λ ts. Cuts c.args.text.now 0 ts (c.loop-at.at + c.in-Ok-Lexeme.len)) (sym (c.in-Ok.ensures).ok) (cuts_token c.loop-at.invariant.cut _ _ t.0 t.1 t.2);
-      within = fits_behind c.args.text.now c.loop-at.at c.in-Ok-Lexeme.len c.loop-at.invariant.within t.1.within;
+      cut = subst (λ ts. Cuts c.args.text.now 0 ts (c.loop-at.at + c.in-Ok-Token.len)) (sym c.in_ok-add-in-Ok-Token.ensures.ok) (cuts_token c.loop-at.invariant.cut _ _ t.0 t.1 t.2);
+      within = fits_behind c.args.text.now c.loop-at.at c.in-Ok-Token.len c.loop-at.invariant.within t.1.within;
     }
+
+pub returns-clause-count : goal.returns-clause-count
+returns-clause-count c = let h = token_count c.loop-at.invariant.cut in omega (arith, c.loop-at.invariant.within)

@@ -1,5 +1,5 @@
 use Rattle.std.proofs.Common.{sym, ◌∙◌}
-use Rattle.lus_syntax.proofs.Lexemes.{digits_longest}
+use Rattle.lus_syntax.proofs.LongestTokens.{digits_longest}
 use Rattle.lus_syntax.proofs.pieces.digits_len.Goals as goal
 
 pub returns-else-is_ascii_digit : goal.returns-else-is_ascii_digit

@@ -1,5 +1,5 @@
 use Rattle.std.proofs.Common.{sym, ◌∙◌}
-use Rattle.lus_syntax.proofs.Lexemes.{name_longest}
+use Rattle.lus_syntax.proofs.LongestTokens.{name_longest}
 use Rattle.lus_syntax.proofs.pieces.name_len.Goals as goal
 
 pub returns-else-is_part : goal.returns-else-is_part

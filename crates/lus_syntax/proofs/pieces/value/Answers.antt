@@ -1,5 +1,5 @@
 use Rattle.std.proofs.Common.{arith}
-use Rattle.lus_syntax.proofs.Lexemes.{value_wide}
+use Rattle.lus_syntax.proofs.LongestTokens.{value_wide}
 use Rattle.lus_syntax.proofs.pieces.value.Goals as goal
 
 pub returns-in-None-checked_add : goal.returns-in-None-checked_add

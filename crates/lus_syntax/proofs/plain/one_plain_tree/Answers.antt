@@ -1,4 +1,4 @@
-use Rattle.lus_syntax.proofs.Nodes.{only_one}
+use Rattle.lus_syntax.proofs.PlainNodes.{only_one}
 use Rattle.lus_syntax.proofs.PlainTexts.{one_source}
 use Rattle.lus_syntax.proofs.plain.one_plain_tree.Goals as goal
 

@@ -1,10 +1,10 @@
 use Rattle.std.proofs.Common.{◌≡◌, rules, [], length, sym, subst}
 use Rattle.std.specs.Prelude.{Err}
 use Rattle.std.proofs.lemmas.List.{nil_from_length}
-use Rattle.lus_syntax.specs.declared.fault.PlainFault.TheVariants.{NotPlain}
-use Rattle.lus_syntax.specs.Grammar.{Derives}
-use Rattle.lus_syntax.specs.Reading.{Takes, ReadsNode}
-use Rattle.lus_syntax.proofs.Nodes.{plain_derived, plain_fails, plain_behind}
+use Rattle.lus_syntax.specs.declared.plain.fault.PlainFault.TheVariants.{NotPlain}
+use Rattle.lus_syntax.specs.PlainGrammar.{Derives}
+use Rattle.lus_syntax.specs.PlainReading.{Takes, ReadsNode}
+use Rattle.lus_syntax.proofs.PlainNodes.{plain_derived, plain_fails, plain_behind}
 use Rattle.lus_syntax.proofs.plain.parse_plain.Goals as goal
 
 pub returns-in_err-decl-clause-refused : goal.returns-in_err-decl-clause-refused

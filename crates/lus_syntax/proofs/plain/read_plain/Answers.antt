@@ -1,6 +1,6 @@
 use Rattle.std.proofs.Common.{◌≡◌, length, subst, sym, ap}
 use Rattle.std.specs.Prelude.{Err}
-use Rattle.lus_syntax.specs.declared.fault.PlainFault.TheVariants.{NotPlain}
+use Rattle.lus_syntax.specs.declared.plain.fault.PlainFault.TheVariants.{NotPlain}
 use Rattle.lus_syntax.specs.Cuts.{Cuts}
 use Rattle.lus_syntax.proofs.PlainTexts.{only_tree, no_tree_refuses}
 use Rattle.lus_syntax.proofs.plain.read_plain.Goals as goal

@@ -1,10 +1,10 @@
 use Rattle.std.proofs.Common.{◌≡◌, length, subst, ap, arith}
 use Rattle.lus_syntax.specs.Crowding.{IsCrowd}
-use Rattle.lus_syntax.proofs.PlainTexts.{token_count, crowd_refuses, fault_refuses}
+use Rattle.lus_syntax.proofs.PlainTexts.{crowd_refuses, fault_refuses}
 use Rattle.lus_syntax.proofs.plain.tokens_of.Goals as goal
 
 pub crowded-requires : goal.crowded-requires
-crowded-requires c = let count = token_count c.in-Ok.ensures.tokens in let same = ap length c.as_slice.ensures in omega arith
+crowded-requires c = let count = c.in-Ok.ensures.count in let same = ap length c.as_slice.ensures in omega arith
 
 pub returns-in-Some-clause-refused : goal.returns-in-Some-clause-refused
 returns-in-Some-clause-refused c h = crowd_refuses c.args.text.now c.in-Ok.tokens c.in-Some.field-0 c.in-Ok.ensures.tokens (subst (λ tokens. IsCrowd tokens c.in-Some.field-0) c.as_slice.ensures c.in-Some.ensures.some.crowd)

@@ -1,6 +1,5 @@
 use Rattle.std.proofs.Common.{arith, refl}
 use Rattle.std.proofs.lemmas.Bool.{iff_false}
-use Rattle.cov_base.specs.declared.text.Text.{Text}
 use Rattle.op_network.proofs.Pairs.{apart_more, apart_all}
 use Rattle.op_network.proofs.valid.names.differ.Goals as goal
 

@@ -1,0 +1,8 @@
+/// The most paths that a plan may have.
+pub const MOST_PATHS: usize = 20_000;
+
+/// The most edges that a path may be asked to have.
+pub const MOST_LENGTH: u32 = 64;
+
+/// More than any distance that counts, in steps.
+pub(crate) const FAR: u32 = 1_000;
