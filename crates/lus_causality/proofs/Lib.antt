@@ -1,0 +1,16 @@
+pub mod Places
+pub mod Members
+pub mod Reading
+pub mod Cycles
+pub mod Causal
+pub mod Chains
+pub mod Growing
+pub mod Clearing
+pub mod Searching
+pub mod Ending
+pub mod Existing
+pub mod Frames
+pub mod Runs
+pub mod Sequences
+pub mod Typed
+pub mod Seeing

@@ -1,0 +1,9 @@
+pub mod Causality
+pub mod Marks
+pub mod Sets
+pub mod Reads
+pub mod Taking
+pub mod Search
+pub mod Seen
+pub mod Ordered
+pub mod Laws
