@@ -1,0 +1,8 @@
+ghost use Rattle.cov_words.specs.Jobs.{AreDetermined};
+
+/// `clap`'s statement determines its answer to each command line: it never leaves open whether the
+/// line is taken. Does nothing: its clause is the law.
+#[tactic(auto, using(crate::proofs::Simple::simple))]
+pub fn answers_are_determined()
+    ensures { AreDetermined }
+{}
