@@ -1,0 +1,12 @@
+pub mod Circuits
+pub mod Comparisons
+pub mod Gates
+pub mod Laws
+pub mod Loops
+pub mod Made
+pub mod Numbers
+pub mod Once
+pub mod Products
+pub mod Rows
+pub mod Sums
+pub mod Values

@@ -1,0 +1,11 @@
+pub mod Below
+pub mod Counts
+pub mod Cuts
+pub mod Digits
+pub mod FormulaBack
+pub mod LitFacts
+pub mod MarkFacts
+pub mod Places
+pub mod Starts
+pub mod TextBack
+pub mod Writes

@@ -1,0 +1,9 @@
+pub mod Dimacs
+pub mod Limits
+pub mod Lines
+pub mod Lits
+pub mod Marks
+pub mod Numbers
+pub mod Shape
+pub mod Stamps
+pub mod Written

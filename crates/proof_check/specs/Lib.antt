@@ -1,0 +1,5 @@
+pub mod Check
+pub mod Lrat
+pub mod Spent
+pub mod Table
+pub mod Written
