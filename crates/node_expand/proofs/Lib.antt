@@ -1,0 +1,17 @@
+pub mod Lists
+pub mod Folds
+pub mod Counted
+pub mod FragmentTypes
+pub mod Places
+pub mod WellFormed
+pub mod Holding
+pub mod Sizes
+pub mod Forward
+pub mod ForwardNodes
+pub mod Bridge
+pub mod Traces
+pub mod TraceNodes
+pub mod Kept
+pub mod SameFragments
+pub mod Deeper
+pub mod MainStreams

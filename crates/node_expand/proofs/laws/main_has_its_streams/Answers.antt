@@ -1,0 +1,7 @@
+use Rattle.node_expand.specs.Law.{main_name, program_in}
+use Rattle.node_expand.proofs.MainStreams.{main_streamed}
+use Rattle.node_expand.proofs.WellFormed.{well_formed}
+use Rattle.node_expand.proofs.laws.main_has_its_streams.Goals as goal
+
+pub returns : goal.returns
+returns c shallow = main_streamed (program_in c.args.typed.now) (main_name c.args.typed.now) (well_formed (program_in c.args.typed.now) c.typed_program.ensures.program) shallow
