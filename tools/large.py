@@ -1,5 +1,5 @@
 #!/usr/bin/env python3
-"""Writes a plain program of 8,000 edges with a suite, and the example with a suite of one mebibyte.
+"""Writes a program of 8,000 edges with a suite, and the example with a suite of one mebibyte.
 
 usage: large.py BIG.lus BIG.csv EDGE.lus MEBIBYTE.csv [INSTANTS]
 """

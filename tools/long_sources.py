@@ -1,9 +1,10 @@
 #!/usr/bin/env python3
-"""Writes five long sources: one mebibyte of short declarations (which the types refuse at the second, as a
+"""Writes six long sources: one mebibyte of short declarations (which the types refuse at the second, as a
 duplicate), many constants that use each other, one node of many equations, one node of 100,000 variables with a use
-each, and many nodes each of which calls itself and the next, the dearest case of the search for recursion.
+each, 100,000 enumerators (global names) with a use each, and many nodes each of which calls itself and the next, the
+dearest case of the search for recursion.
 
-usage: long_sources.py DECLARATIONS.lus CONSTANTS.lus EQUATIONS.lus VARIABLES.lus RECURSION.lus
+usage: long_sources.py DECLARATIONS.lus CONSTANTS.lus EQUATIONS.lus VARIABLES.lus ENUMERATORS.lus RECURSION.lus
 """
 import itertools
 import string
@@ -41,9 +42,20 @@ def variables(count):
     return f"node n(x:bool)returns(y:bool);var {','.join(names)}:bool;let {lines}y=x;tel"
 
 
+def enumerators(count):
+    """Types of at most 256 enumerators of short names, and a node that asks of each two neighbours whether they are
+    one, in assertions of few enough operators."""
+    names = short_names(count)
+    types = [names[start : start + 256] for start in range(0, count, 256)]
+    lines = [f"type t{place:x}_=enum{{{','.join(choices)}}};" for place, choices in enumerate(types)]
+    asked = [f"{one}={other}" for one, other in zip(names[::2], names[1::2])]
+    asserts = [f"assert {'=>'.join(asked[start : start + 200])};" for start in range(0, len(asked), 200)]
+    return f"{''.join(lines)}node n_(x:bool)returns(y:bool);let y=x;{''.join(asserts)}tel"
+
+
 def recursion(count):
     """Nodes of which each but the last calls itself and the next."""
-    lines = [f"node f{i:x}(x:bool)returns(y:bool);let y=f{i:x}(f{i + 1:x}(x));tel" for i in range(count - 1)]
+    lines = [f"node f{i:x}(x:bool)returns(y:bool);let y=f{i:x}(f{i + 1:x}(x));tel\n" for i in range(count - 1)]
     return "".join(lines) + f"node f{count - 1:x}(x:bool)returns(y:bool);let y=x;tel"
 
 
@@ -57,7 +69,8 @@ def main():
     write(sys.argv[2], constants(50_000))
     write(sys.argv[3], equations(50_000))
     write(sys.argv[4], variables(100_000))
-    write(sys.argv[5], recursion(16_000))
+    write(sys.argv[5], enumerators(100_000))
+    write(sys.argv[6], recursion(16_000))
 
 
 main()

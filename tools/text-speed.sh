@@ -13,10 +13,11 @@ done
 echo "text_speed: lus_types lus_syntax cov_base" >>"$work/crates.txt"
 cp "$top/tools/text_speed/main.rt.txt" "$work/crates/text_speed/src/main.rt"
 cd "$work/crates/text_speed" || exit 1
-python3 "$top/tools/long_sources.py" declarations.lus constants.lus equations.lus variables.lus recursion.lus
+python3 "$top/tools/long_sources.py" declarations.lus constants.lus equations.lus variables.lus enumerators.lus \
+    recursion.lus
 cp declarations.lus source.lus
 rt run >build.log 2>&1 || { tail -5 build.log; exit 1; }
-for source in declarations constants equations variables recursion; do
+for source in declarations constants equations variables enumerators recursion; do
     cp "$source.lus" source.lus
     echo "$source"
     for turn in 1 2 3; do

@@ -21,7 +21,8 @@ fn allows(pin: Option<Pin>, place: usize, e: EdgeId, frames: &[Frame], t: u32) -
 /// one more step, through a port of an operator. `None` where the step is not active at `t`. In
 /// constant time.
 fn before_step(op: Op, port: u8, frames: &[Frame], t: u32) -> Option<u32>
-    ensures { (shorter : ℕ → Bool) → passes op port frames.now shorter t ≡ option_map_or shorter result false }
+    ensures { (shorter : ℕ → Bool) →
+        passes op port frames.now shorter t ≡ option_map_or shorter result false }
 {
     match op.form() {
         Form::Arrow(_, _) => ((port == 0) == (t == 0)).then_some(t),
@@ -41,7 +42,8 @@ fn before_entry(
     frames: &[Frame],
     t: u32,
 ) -> Option<u32>
-    ensures { (shorter : ℕ → Bool) → enters edges.now pin place frames.now shorter t step ≡ option_map_or shorter result false }
+    ensures { (shorter : ℕ → Bool) →
+        enters edges.now pin place frames.now shorter t step ≡ option_map_or shorter result false }
 {
     if !allows(pin, place, step.edge, frames, t) {
         return None;

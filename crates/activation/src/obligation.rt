@@ -62,7 +62,8 @@ pub(crate) fn is_met_by(
 /// met. Ask below `frames.len()`: a value that a frame lacks counts as false, and an instant past the
 /// frames as one at which all are. The cost is linear in the path's length, and no memory is taken.
 pub fn met(net: &Network, plan: &Plan, frames: &[Frame], o: u32, t: u32) -> bool
-    ensures met { (duty : Duty) → slice_get plan.now.duties o ≡ Some duty → result ≡ is_met net.now.edges plan.now.paths frames.now duty t }
+    ensures met { (duty : Duty) → slice_get plan.now.duties o ≡ Some duty →
+        result ≡ is_met net.now.edges plan.now.paths frames.now duty t }
     ensures none { slice_get plan.now.duties o ≡ None → result ≡ false }
 {
     match plan.duties().get(o as usize) {

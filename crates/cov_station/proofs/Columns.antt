@@ -1,87 +1,122 @@
--- The columns of a run: what each operator makes of the columns that it reads.
-use Rattle.std.proofs.Common.{◌≡◌, ℕ, suc, false, List, [], ◌∷◌, length, replicate, Option, Some, None, slice_get, slice_index_or, refl, ap, ap₂, ◌∙◌}
-use Rattle.std.proofs.lemmas.Option.{get_or_from_slice_get}
+-- Columns of a table of rows, value by value, and the streams of inputs.
+use Rattle.std.proofs.Common.{◌≡◌, ℕ, suc, zero, ◌+◌, ◌-◌, ◌*◌, ◌<◌, List, [], ◌∷◌, ◌++◌, length, take, drop, get_or, refl, sym, ap, ◌∙◌, append_assoc, arith, false, length-drop}
+use Rattle.std.proofs.lemmas.List.{append-nil}
+use Rattle.std.specs.Prelude.{Option, Some, None, slice_get, slice_index_or}
+use Rattle.std.specs.Option.{option_map}
+use Rattle.op_network.specs.declared.edge.Choice.{Choice}
 use Rattle.op_network.specs.declared.edge.Edge.{Edge}
+use Rattle.op_network.specs.declared.edge.EdgeId.{EdgeId}
 use Rattle.op_network.specs.declared.edge.Op.{Op}
-use Rattle.op_network.specs.declared.edge.Op.TheVariants.{Input, Const, Id, Not, And, Arrow, Pre}
-use Rattle.op_network.specs.declared.value.Ty.TheVariants as type
+use Rattle.op_network.specs.declared.edge.Op.TheVariants as op
+use Rattle.op_network.specs.declared.edge.Parts.{Parts}
+use Rattle.op_network.specs.declared.value.Ty.{Ty}
 use Rattle.op_network.specs.declared.value.Value.{Value}
 use Rattle.op_network.specs.declared.value.Value.TheVariants.{Truth}
-use Rattle.op_network.specs.Operators.{pre_value, operator_value}
-use Rattle.op_network.specs.Values.{default}
-use Rattle.op_network.specs.Run.{IsFrame, IsRunAfter, IsRun}
-use Rattle.cov_station.specs.Net.{edge, word_width}
-use Rattle.cov_station.specs.RunText.{column}
-use Rattle.cov_station.specs.Streams.{opposite, conjoined, followed, delayed}
+use Rattle.op_network.specs.Operators.{at_edge, operator_value}
+use Rattle.op_network.specs.Run.{IsFrame, IsRunAfter, rows}
+use Rattle.op_network.specs.Valid.{IsValid, op_of}
+use Rattle.cov_station.specs.NetworkText.{edge_line, edge_lines, enumerators, name_of, stream_in, type_of}
+use Rattle.cov_station.specs.Playing.{AddsLines, column}
+use Rattle.cov_station.specs.Values.{Enumerators, value_text, values_text}
 
--- at this place stands an edge of truths with this operator
-pub record HasOp (edges : List Edge) (k : ℕ) (op : Op) : Type 0 where
-  pub edge : Edge
-  pub found : slice_get edges k ≡ Some edge
-  pub operator : edge.op ≡ op
-  pub truths : edge.ty ≡ type.Truth
+at_place : (width place : ℕ) (values : List Value) (d : Value) → place < width → get_or (take width values) place d ≡ get_or values place d
+at_place zero place values d lt = absurd (omega (arith, lt))
+at_place (suc width) place [] d lt = refl
+at_place (suc width) zero (v ∷ values) d lt = refl
+at_place (suc width) (suc place) (v ∷ values) d lt = at_place width place values d (omega (arith, lt))
 
-value_at : {edges : List Edge} {k : ℕ} {op : Op} (before : Option (List Value)) (inputs now : List Value) → IsFrame word_width edges before inputs now → HasOp edges k op → slice_index_or now k (Truth false) ≡ operator_value word_width op type.Truth before now inputs
-value_at {edges} {k} {op} before inputs now frame has =
-    get_or_from_slice_get now k _ (Truth false) (frame.values k has.edge has.found)
-    ∙ ap (λ o. operator_value word_width o has.edge.ty before now inputs) has.operator
-    ∙ ap (λ t. operator_value word_width op t before now inputs) has.truths
+-- one more value was added
+value_added : (choices : Enumerators) (ty : Ty) (text whole : List ℕ) (place width left : ℕ) (rest : List Value)
+    → place < width
+    → text ++ values_text choices ty (column place (rows width (suc left) rest)) ≡ whole
+    → (text ++ 32 ∷ value_text choices ty (slice_index_or rest place (Truth false)))
+    ++ values_text choices ty (column place (rows width left (drop width rest))) ≡ whole
+value_added choices ty text whole place width left rest within e =
+    let later : List ℕ = values_text choices ty (column place (rows width left (drop width rest))) in
+    let there = at_place width place rest (Truth false) within in
+    append_assoc text (32 ∷ value_text choices ty (slice_index_or rest place (Truth false))) later
+    ∙ ap (λ v. text ++ ((32 ∷ value_text choices ty v) ++ later)) (sym there)
+    ∙ e
 
-pub column_id : {edges : List Edge} {k : ℕ} (a : ℕ) (before : Option (List Value)) (rows frames : List (List Value)) → IsRunAfter word_width edges before rows frames → HasOp edges k (Id (edge a)) → column k frames ≡ column a frames
-column_id a before [] [] run has = refl
-column_id a before [] (now ∷ frames) run has = absurd run
-column_id a before (inputs ∷ rows) [] run has = absurd run
-column_id a before (inputs ∷ rows) (now ∷ frames) run has = ap₂ (λ v s. v ∷ s) (value_at before inputs now run.0 has) (column_id a (Some now) rows frames run.1 has)
+pub value_added_as : (choices : Enumerators) (ty : Ty) (text text' whole : List ℕ) (place width instants i : ℕ) (rest rest' : List Value) (v : Value)
+    → place < width → i < instants → v ≡ slice_index_or rest place (Truth false)
+    → text' ≡ text ++ 32 ∷ value_text choices ty v → rest' ≡ drop width rest
+    → text ++ values_text choices ty (column place (rows width (instants - i) rest)) ≡ whole
+    → text' ++ values_text choices ty (column place (rows width (instants - (i + 1)) rest')) ≡ whole
+value_added_as choices ty text text' whole place width instants i rest rest' v within lt is added moved e =
+    let n : instants - i ≡ suc (instants - (i + 1)) = omega arith in
+    ap (λ r. text' ++ values_text choices ty (column place (rows width (instants - (i + 1)) r))) moved
+    ∙ ap (λ t. t ++ values_text choices ty (column place (rows width (instants - (i + 1)) (drop width rest)))) (added ∙ ap (λ w. text ++ 32 ∷ value_text choices ty w) is)
+    ∙ value_added choices ty text whole place width (instants - (i + 1)) rest within
+    (ap (λ m. text ++ values_text choices ty (column place (rows width m rest))) (sym n) ∙ e)
 
-pub column_not : {edges : List Edge} {k : ℕ} (a : ℕ) (before : Option (List Value)) (rows frames : List (List Value)) → IsRunAfter word_width edges before rows frames → HasOp edges k (Not (edge a)) → column k frames ≡ opposite (column a frames)
-column_not a before [] [] run has = refl
-column_not a before [] (now ∷ frames) run has = absurd run
-column_not a before (inputs ∷ rows) [] run has = absurd run
-column_not a before (inputs ∷ rows) (now ∷ frames) run has = ap₂ (λ v s. v ∷ s) (value_at before inputs now run.0 has) (column_not a (Some now) rows frames run.1 has)
+pub rest_size : (instants i width : ℕ) (rest rest' : List Value) → i < instants → rest' ≡ drop width rest
+    → length rest ≡ (instants - i) * width → length rest' ≡ (instants - (i + 1)) * width
+rest_size instants i width rest rest' lt moved size =
+    let n : instants - i ≡ (instants - (i + 1)) + 1 = omega arith in
+    let m : ((instants - (i + 1)) + 1) * width ≡ (instants - (i + 1)) * width + width = grind arith in
+    let whole : length rest ≡ (instants - (i + 1)) * width + width = size ∙ ap (λ k. k * width) n ∙ m in
+    ap length moved ∙ length-drop width rest ∙ less whole
+  where
+    less : {a b : ℕ} → a ≡ b + width → a - width ≡ b
+    less h = omega (arith, h)
 
-pub column_and : {edges : List Edge} {k : ℕ} (a b : ℕ) (before : Option (List Value)) (rows frames : List (List Value)) → IsRunAfter word_width edges before rows frames → HasOp edges k (And (edge a) (edge b)) → column k frames ≡ conjoined (column a frames) (column b frames)
-column_and a b before [] [] run has = refl
-column_and a b before [] (now ∷ frames) run has = absurd run
-column_and a b before (inputs ∷ rows) [] run has = absurd run
-column_and a b before (inputs ∷ rows) (now ∷ frames) run has = ap₂ (λ v s. v ∷ s) (value_at before inputs now run.0 has) (column_and a b (Some now) rows frames run.1 has)
+-- ---- an input's stream is its column
 
--- behind the first instant
-column_later : {edges : List Edge} {k : ℕ} (a b : ℕ) (before : List Value) (rows frames : List (List Value)) → IsRunAfter word_width edges (Some before) rows frames → HasOp edges k (Arrow (edge a) (edge b)) → column k frames ≡ column b frames
-column_later a b before [] [] run has = refl
-column_later a b before [] (now ∷ frames) run has = absurd run
-column_later a b before (inputs ∷ rows) [] run has = absurd run
-column_later a b before (inputs ∷ rows) (now ∷ frames) run has = ap₂ (λ v s. v ∷ s) (value_at (Some before) inputs now run.0 has) (column_later a b now rows frames run.1 has)
+pub at_input : (edges : List Edge) (width i : ℕ) (e : EdgeId) (before : Option (List Value)) (row frame : List Value)
+    → op_of edges e.0 ≡ Some (op.Input i) → IsFrame width edges before row frame
+    → at_edge frame e ≡ slice_index_or row i (Truth false)
+at_input edges width i e before row frame is f = found (slice_get edges e.0) refl is
+  where
+    from_some : (l : List Value) (k : ℕ) (v : Value) → slice_get l k ≡ Some v → slice_index_or l k (Truth false) ≡ v
+    from_some [] k v h = absurd (cc)
+    from_some (x ∷ l) zero v h = cc
+    from_some (x ∷ l) (suc k) v h = from_some l k v h
 
-pub column_arrow : {edges : List Edge} {k : ℕ} (a b : ℕ) (rows frames : List (List Value)) → IsRun word_width edges rows frames → HasOp edges k (Arrow (edge a) (edge b)) → column k frames ≡ followed (column a frames) (column b frames)
-column_arrow a b [] [] run has = refl
-column_arrow a b [] (now ∷ frames) run has = absurd run
-column_arrow a b (inputs ∷ rows) [] run has = absurd run
-column_arrow a b (inputs ∷ rows) (now ∷ frames) run has = ap₂ (λ v s. v ∷ s) (value_at None inputs now run.0 has) (column_later a b now rows frames run.1 has)
+    found : (o : Option Edge) → slice_get edges e.0 ≡ o → option_map (λ (edge : Edge). edge.op) o ≡ Some (op.Input i)
+        → at_edge frame e ≡ slice_index_or row i (Truth false)
+    found None there h = absurd (cc)
+    found (Some edge) there h =
+        let o : edge.op ≡ op.Input i = cc in
+        from_some frame e.0 (operator_value width edge.op edge.ty before frame row) (f.values e.0 edge there)
+        ∙ ap (λ (p : Op). operator_value width p edge.ty before frame row) o
 
-column_behind : {edges : List Edge} {k : ℕ} (a : ℕ) (before : Option (List Value)) (first : Value) (rows frames : List (List Value)) → IsRunAfter word_width edges before rows frames → HasOp edges k (Pre (edge a)) → pre_value before type.Truth (edge a) ≡ first → column k frames ≡ delayed first (column a frames)
-column_behind a before first [] [] run has is = refl
-column_behind a before first [] (now ∷ frames) run has is = absurd run
-column_behind a before first (inputs ∷ rows) [] run has is = absurd run
-column_behind a before first (inputs ∷ rows) (now ∷ frames) run has is = ap₂ (λ v s. v ∷ s) (value_at before inputs now run.0 has ∙ is) (column_behind a (Some now) _ rows frames run.1 has refl)
+stream_is : (edges : List Edge) (width i : ℕ) (e : EdgeId) (before : Option (List Value)) (table frames : List (List Value))
+    → op_of edges e.0 ≡ Some (op.Input i) → IsRunAfter width edges before table frames
+    → stream_in frames e ≡ column i table
+stream_is edges width i e before [] [] is run = refl
+stream_is edges width i e before [] (f ∷ frames) is run = absurd run
+stream_is edges width i e before (r ∷ table) [] is run = absurd run
+stream_is edges width i e before (r ∷ table) (f ∷ frames) is run =
+    ap (λ v. v ∷ stream_in frames e) (at_input edges width i e before r f is run.0)
+    ∙ ap (λ s. slice_index_or r i (Truth false) ∷ s) (stream_is edges width i e (Some f) table frames is run.1)
 
-pub column_pre : {edges : List Edge} {k : ℕ} (a : ℕ) (rows frames : List (List Value)) → IsRun word_width edges rows frames → HasOp edges k (Pre (edge a)) → column k frames ≡ delayed (default type.Truth) (column a frames)
-column_pre a rows frames run has = column_behind a None (default type.Truth) rows frames run has refl
+-- the line of an input was added
+pub line_added : (parts : Parts) (table : List (List Value)) (place : ℕ) (e : EdgeId) (old named valued new name : List ℕ)
+    (choices : List Choice) (edges : List Edge) (ty : Ty)
+    → IsValid parts → slice_get parts.inputs place ≡ Some e
+    → choices ≡ parts.choices → edges ≡ parts.edges → name ≡ name_of edges e → ty ≡ type_of edges e
+    → named ≡ old ++ name
+    → valued ≡ named ++ values_text (enumerators choices) ty (column place table)
+    → new ≡ valued ++ 10 ∷ []
+    → AddsLines parts table (e ∷ []) old new
+line_added parts table place e old named valued new name choices edges ty valid there same_choices same_edges name_is ty_is a b c =
+    record { each = λ frames run. go frames (stream_is parts.edges parts.width place e None table frames (valid.inputs.numbered place e there) run) }
+  where
+    is_name : name ≡ name_of parts.edges e
+    is_name = name_is ∙ ap (λ (es : List Edge). name_of es e) same_edges
 
-pub column_const : {edges : List Edge} {k : ℕ} (v : Value) (before : Option (List Value)) (rows frames : List (List Value)) → IsRunAfter word_width edges before rows frames → HasOp edges k (Const v) → column k frames ≡ replicate (length rows) v
-column_const v before [] [] run has = refl
-column_const v before [] (now ∷ frames) run has = absurd run
-column_const v before (inputs ∷ rows) [] run has = absurd run
-column_const v before (inputs ∷ rows) (now ∷ frames) run has = ap₂ (λ v s. v ∷ s) (value_at before inputs now run.0 has) (column_const v (Some now) rows frames run.1 has)
+    is_ty : ty ≡ type_of parts.edges e
+    is_ty = ty_is ∙ ap (λ (es : List Edge). type_of es e) same_edges
 
-pub column_input : {edges : List Edge} {k : ℕ} (i : ℕ) (before : Option (List Value)) (rows frames : List (List Value)) → IsRunAfter word_width edges before rows frames → HasOp edges k (Input i) → column k frames ≡ column i rows
-column_input i before [] [] run has = refl
-column_input i before [] (now ∷ frames) run has = absurd run
-column_input i before (inputs ∷ rows) [] run has = absurd run
-column_input i before (inputs ∷ rows) (now ∷ frames) run has = ap₂ (λ v s. v ∷ s) (value_at before inputs now run.0 has) (column_input i (Some now) rows frames run.1 has)
-
--- a run has a frame for each row
-pub frame_count : (edges : List Edge) (before : Option (List Value)) (rows frames : List (List Value)) → IsRunAfter word_width edges before rows frames → length frames ≡ length rows
-frame_count edges before [] [] run = refl
-frame_count edges before [] (now ∷ frames) run = absurd run
-frame_count edges before (inputs ∷ rows) [] run = absurd run
-frame_count edges before (inputs ∷ rows) (now ∷ frames) run = ap suc (frame_count edges (Some now) rows frames run.1)
+    go : (frames : List (List Value)) → stream_in frames e ≡ column place table → new ≡ old ++ edge_lines parts frames (e ∷ [])
+    go frames is =
+        let text : List Value → List ℕ = values_text (enumerators choices) ty in
+        c ∙ ap (λ w. w ++ 10 ∷ []) (b ∙ ap (λ w. w ++ text (column place table)) a)
+        ∙ append_assoc (old ++ name) (text (column place table)) (10 ∷ [])
+        ∙ append_assoc old name (text (column place table) ++ 10 ∷ [])
+        ∙ ap (λ s. old ++ (name ++ (text s ++ 10 ∷ []))) (sym is)
+        ∙ ap (λ n. old ++ (n ++ (text (stream_in frames e) ++ 10 ∷ []))) is_name
+        ∙ ap (λ t. old ++ (name_of parts.edges e ++ (values_text (enumerators choices) t (stream_in frames e) ++ 10 ∷ []))) is_ty
+        ∙ ap (λ (cs : List Choice). old ++ (name_of parts.edges e ++ (values_text (enumerators cs) (type_of parts.edges e) (stream_in frames e) ++ 10 ∷ []))) same_choices
+        ∙ ap (λ w. old ++ w) (sym (append-nil (edge_line parts frames e)))

@@ -1,33 +1,48 @@
--- The words of a command line. A command is `Run`, or `Score` with the most edges that a path may have.
-use Rattle.std.specs.Prelude.{◌≡◌, ℕ, ◌≤◌, Bool, false, ◌==◌, List, [], ◌∷◌, codes, decimal}
-use Rattle.cov_station.specs.declared.words.Command.{Command}
-use Rattle.cov_station.specs.declared.words.Command.TheVariants.{Run, Score}
+-- The commands, step by step.
+use Rattle.std.specs.Prelude.{ℕ, List, Option}
+use Rattle.cov_base.specs.Files.{Files}
+use Rattle.lus_types.specs.Names.{Name}
+use Rattle.cov_words.specs.declared.job.Verb.{Verb}
+use Rattle.cov_words.specs.declared.job.Verb.TheVariants as verb
+use Rattle.cov_words.specs.Jobs.{Asked}
+use Rattle.cov_station.specs.Chains.{Chain, prints, ◌>>=◌}
+use Rattle.cov_station.specs.Plans.{ListsPaths}
+use Rattle.cov_station.specs.RunText.{RunText}
+use Rattle.cov_station.specs.ScoreText.{ScoreText}
+use Rattle.cov_station.specs.Sources.{ReadsSource, net}
+use Rattle.cov_station.specs.Suites.{ReadsSuite}
+use Rattle.cov_station.specs.Words.{Asks}
 
--- the word begins with `-`
-abbrev pub is_option : List ℕ → Bool
-is_option [] = false
-is_option (b ∷ bytes) = b == 45
+-- `run SOURCE SUITE`, over words of a width, of the named main node
+abbrev pub run : Option Files → Name → Name → ℕ → Option Name → Chain
+run files source_name suite_name width main = do
+  source ← ReadsSource files source_name width main
+  tests ← ReadsSuite files suite_name (net source)
+  prints (RunText source tests)
 
--- the word that names the command
-abbrev pub verb : Command → List ℕ
-verb Run = codes "run"
-verb (Score n) = codes "score"
+-- `score SOURCE SUITE`, over paths of so many edges at most
+abbrev pub score : Option Files → Name → Name → ℕ → Option Name → ℕ → Chain
+score files source_name suite_name width main most_edges = do
+  source ← ReadsSource files source_name width main
+  paths ← ListsPaths (net source) most_edges
+  tests ← ReadsSuite files suite_name (net source)
+  prints (ScoreText source paths tests)
 
--- The words that give the most edges of a path: none, which is 10, or `--length` and a number of 1 to 64 in
--- decimals.
-pub data GivesLength : List (List ℕ) → ℕ → Type 0 where
-  default_length : GivesLength [] 10
-  given_length : {n : ℕ} → 1 ≤ n → n ≤ 64 → GivesLength (codes "--length" ∷ decimal n ∷ []) n
+-- a command that isn't done yet: words that name it are refused before, and it has no text
+abbrev pub not_yet : Chain
+not_yet = prints (λ text. ⊥)
 
--- the words behind SOURCE and SUITE
-abbrev pub GivesOptions : Command → List (List ℕ) → Type 0
-GivesOptions Run options = options ≡ []
-GivesOptions (Score n) options = GivesLength options n
+-- what each command does
+abbrev pub chain_by : Verb → Option Files → Asked → Chain
+chain_by verb.Run files job = run files job.first job.second job.width job.main
+chain_by verb.Score files job = score files job.first job.second job.width job.main job.most_edges
+chain_by _ files job = not_yet
 
--- The words are the command, SOURCE and SUITE, neither of which begins with `-`, and the command's options.
-pub record IsCommand (words : List (List ℕ)) (command : Command) (source suite : List ℕ) : Type 0 where
-  pub options : List (List ℕ)
-  pub all : words ≡ verb command ∷ source ∷ suite ∷ options
-  pub source_name : is_option source ≡ false
-  pub suite_name : is_option suite ≡ false
-  pub given : GivesOptions command options
+abbrev pub chain_of : Option Files → Asked → Chain
+chain_of files job = chain_by job.verb files job
+
+-- what the words ask for
+abbrev pub station : List (List ℕ) → Option Files → Chain
+station words files = do
+  job ← Asks words
+  chain_of files job

@@ -1,47 +1,67 @@
--- The text of `run` over a network: what is printed of its runs.
-use Rattle.std.specs.Prelude.{ℕ, List, [], ◌∷◌, ◌++◌, length, map, codes, slice_get}
+-- The text of `run` over a network: what is printed of its runs over tests.
+use Rattle.std.specs.Prelude.{ℕ, Bool, List, [], ◌∷◌, ◌++◌, length, map, codes, slice_get}
+use Rattle.std.specs.List.{flat_map, list_all}
 use Rattle.std.specs.Option.{option_map_or}
-use Rattle.op_network.specs.declared.edge.EdgeId.{EdgeId}
+use Rattle.op_network.specs.declared.edge.Choice.{Choice}
 use Rattle.op_network.specs.declared.edge.Edge.{Edge}
+use Rattle.op_network.specs.declared.edge.EdgeId.{EdgeId}
 use Rattle.op_network.specs.declared.edge.Parts.{Parts}
 use Rattle.op_network.specs.declared.test.Test.{Test}
+use Rattle.op_network.specs.declared.value.Ty.{Ty}
+use Rattle.op_network.specs.declared.value.Ty.TheVariants as type
 use Rattle.op_network.specs.declared.value.Value.{Value}
 use Rattle.op_network.specs.Operators.{at_edge}
 use Rattle.op_network.specs.Run.{IsRun, rows}
-use Rattle.cov_station.specs.Nodes.{Name}
-use Rattle.cov_station.specs.RunText.{columns, stream_lines}
-use Rattle.cov_station.specs.Net.{word_width}
+use Rattle.op_network.specs.Values.{is_true}
+use Rattle.cov_station.specs.Values.{Enumerators, Name, failure_line, first_failure, stream_line}
+
+-- the names of the enumerators of these choices
+abbrev pub enumerators : List Choice → Enumerators
+enumerators choices = map (λ (choice : Choice). choice.names) choices
 
 abbrev pub name_of : List Edge → EdgeId → Name
 name_of edges e = option_map_or (λ (edge : Edge). edge.name) (slice_get edges e.0) []
 
-abbrev pub names_of : List Edge → List EdgeId → List Name
-names_of edges ids = map (name_of edges) ids
+abbrev pub type_of : List Edge → EdgeId → Ty
+type_of edges e = option_map_or (λ (edge : Edge). edge.ty) (slice_get edges e.0) type.Truth
 
--- the values of these edges in a frame
-abbrev pub selected : List EdgeId → List Value → List Value
-selected ids frame = map (at_edge frame) ids
+-- the values of an edge in these frames, instant by instant
+abbrev pub stream_in : List (List Value) → EdgeId → List Value
+stream_in frames e = map (λ frame. at_edge frame e) frames
+
+-- the name of an edge, and its values in these frames
+abbrev pub edge_line : Parts → List (List Value) → EdgeId → List ℕ
+edge_line parts frames e = stream_line (enumerators parts.choices)
+    (name_of parts.edges e) (type_of parts.edges e) (stream_in frames e)
+
+-- a line for each of these edges
+abbrev pub edge_lines : Parts → List (List Value) → List EdgeId → List ℕ
+edge_lines parts frames ids = flat_map (edge_line parts frames) ids
+
+-- whether all assert edges are true in a frame
+abbrev pub are_asserted : Parts → List Value → Bool
+are_asserted parts frame = list_all (λ e. is_true (at_edge frame e)) parts.asserts
+
+-- the same of each of these frames
+abbrev pub asserted : Parts → List (List Value) → List Bool
+asserted parts frames = map (are_asserted parts) frames
+
+-- The text of a test of this name, in whose run the network has these frames: the lines of the
+-- inputs and of the outputs, and where an assertion fails the first instant at which one does.
+abbrev pub test_text : Parts → Name → List (List Value) → List ℕ
+test_text parts name frames = codes "test " ++ (name ++ 10 ∷ (edge_lines parts frames parts.inputs
+    ++ (edge_lines parts frames parts.outputs
+    ++ failure_line (first_failure (asserted parts frames)))))
 
 -- the rows of a test's inputs
 abbrev pub input_rows : Parts → Test → List (List Value)
 input_rows parts test = rows (length parts.inputs) test.instants test.values
 
--- the text of one test, over which the network has these frames
-abbrev pub frames_text : Parts → Test → List (List Value) → List ℕ
-frames_text parts test frames =
-    codes "test " ++ (test.name ++ 10 ∷ (stream_lines (names_of parts.edges parts.inputs) (columns 0 (names_of parts.edges parts.inputs) (input_rows parts test))
-    ++ stream_lines (names_of parts.edges parts.outputs) (columns 0 (names_of parts.edges parts.outputs) (map (selected parts.outputs) frames))))
-
--- the same text, from the values of the outputs one after the other
-abbrev pub values_text : Parts → Test → List Value → List ℕ
-values_text parts test values =
-    codes "test " ++ (test.name ++ 10 ∷ (stream_lines (names_of parts.edges parts.inputs) (columns 0 (names_of parts.edges parts.inputs) (input_rows parts test))
-    ++ stream_lines (names_of parts.edges parts.outputs) (columns 0 (names_of parts.edges parts.outputs) (rows (length parts.outputs) test.instants values))))
-
--- the bytes are the text of the network's runs over the tests, test by test
+-- The bytes are the text of the network's runs over the tests, test by test. A run has all instants
+-- of its test, whether or not an assertion fails.
 pub data NetworkText (parts : Parts) : List Test → List ℕ → Type 0 where
-  no_runs : NetworkText parts [] []
-  more_runs : {test : Test} {tests : List Test} {text : List ℕ} (frames : List (List Value))
-      → IsRun word_width parts.edges (input_rows parts test) frames
+  no_tests : NetworkText parts [] []
+  more_tests : {test : Test} {tests : List Test} {text : List ℕ} (frames : List (List Value))
+      → IsRun parts.width parts.edges (input_rows parts test) frames
       → NetworkText parts tests text
-      → NetworkText parts (test ∷ tests) (frames_text parts test frames ++ text)
+      → NetworkText parts (test ∷ tests) (test_text parts test.name frames ++ text)

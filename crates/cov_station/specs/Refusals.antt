@@ -1,76 +1,88 @@
--- What the refusals of a command say and why they come.
-use Rattle.std.specs.Prelude.{◌≡◌, ℕ, ◌<◌, ◌≤◌, List, [], length, Option}
-use Rattle.cov_base.specs.Files.{Files, Counts, OnlyMissingRose, OnlyReadsRose}
-use Rattle.op_network.specs.declared.test.Test.{Test}
-use Rattle.cov_station.specs.declared.files.Contents.{Contents}
-use Rattle.cov_station.specs.declared.files.Contents.TheVariants.{Whole, TooLong}
+-- What the refusals say: their statuses and their lines.
+use Rattle.std.specs.Prelude.{ℕ, ◌+◌, List, [], ◌∷◌, ◌++◌, codes, decimal}
+use Rattle.lus_types.specs.declared.fault.TypeKind.{TypeKind}
+use Rattle.lus_types.specs.declared.fault.TypeKind.TheVariants as typing
+use Rattle.suite_file.specs.declared.fault.SuiteKind.{SuiteKind}
+use Rattle.suite_file.specs.declared.fault.SuiteKind.TheVariants as suite
+use Rattle.cov_station.specs.declared.refusal.Quantity.{Quantity}
+use Rattle.cov_station.specs.declared.refusal.Quantity.TheVariants.{Bytes, Operators, Calls, Edges, Paths, Tests, Instants}
+use Rattle.cov_station.specs.declared.refusal.Refusal.{Refusal}
+use Rattle.cov_station.specs.declared.refusal.Refusal.TheVariants.{Usage, NoFile, CannotRead, BadByte, OpenComment, WideLiteral, Syntax, Typing, Cycle, OverLimit, Suite, Memory}
 use Rattle.cov_station.specs.declared.status.Status.{Status}
 use Rattle.cov_station.specs.declared.status.Status.TheVariants as status
-use Rattle.cov_station.specs.declared.refusal.Refusal.{Refusal}
-use Rattle.cov_station.specs.declared.refusal.Refusal.TheVariants.{NoSource, NoSuite, SourceUnread, SuiteUnread, SourceNotPlain, TooManyPaths, SuiteNotPlain, Memory}
-use Rattle.cov_station.specs.declared.words.Command.{Command}
-use Rattle.cov_station.specs.Answers.{no_file, cannot_read, no_plain_source, over_paths, no_plain_suite, HasFile, LacksFile, IsProgram, BreaksLimit, CommandRefuses}
-use Rattle.cov_station.specs.Net.{net}
-use Rattle.cov_station.specs.Nodes.{Name, Node}
-use Rattle.cov_station.specs.Suites.{IsPlainSuite}
 
 abbrev pub status_of : Refusal → Status
-status_of NoSource = status.Missing
-status_of NoSuite = status.Missing
-status_of SourceUnread = status.ReadFault
-status_of SuiteUnread = status.ReadFault
-status_of SourceNotPlain = status.Source
-status_of TooManyPaths = status.Limit
-status_of SuiteNotPlain = status.Unreadable
+status_of Usage = status.Usage
+status_of (NoFile name) = status.Missing
+status_of (CannotRead name) = status.ReadFault
+status_of (BadByte at) = status.Source
+status_of (OpenComment at) = status.Source
+status_of (WideLiteral at) = status.Source
+status_of (Syntax at) = status.Source
+status_of (Typing kind at) = status.Source
+status_of (Cycle edge) = status.Source
+status_of (OverLimit quantity most) = status.Limit
+status_of (Suite kind record') = status.Unreadable
 status_of Memory = status.Memory
 
--- the line, of which want of memory has none
-abbrev pub line_of : List ℕ → List ℕ → Refusal → List ℕ
-line_of source suite NoSource = no_file source
-line_of source suite NoSuite = no_file suite
-line_of source suite SourceUnread = cannot_read source
-line_of source suite SuiteUnread = cannot_read suite
-line_of source suite SourceNotPlain = no_plain_source
-line_of source suite TooManyPaths = over_paths
-line_of source suite SuiteNotPlain = no_plain_suite
-line_of source suite Memory = []
+-- the word of a quantity that has a limit
+abbrev pub word_of : Quantity → List ℕ
+word_of Bytes = codes "bytes"
+word_of Operators = codes "operators"
+word_of Calls = codes "calls"
+word_of Edges = codes "edges"
+word_of Paths = codes "paths"
+word_of Tests = codes "tests"
+word_of Instants = codes "instants"
 
--- SOURCE was read and holds a plain program, within the command's limit
-pub record IsReached (command : Command) (source : List ℕ) (files : Option Files) : Type 0 where
-  pub bytes : List ℕ
-  pub held : HasFile files source bytes
-  pub node : Node
-  pub program : IsProgram bytes node
-  pub within : BreaksLimit command (net node) → ⊥
+abbrev pub type_fault : TypeKind → List ℕ
+type_fault typing.Clocked = codes "clocked"
+type_fault typing.Unsupported = codes "unsupported"
+type_fault typing.Duplicate = codes "duplicate"
+type_fault typing.Unknown = codes "unknown"
+type_fault typing.NotANode = codes "not a node"
+type_fault typing.Arity = codes "arity"
+type_fault typing.Mismatch = codes "mismatch"
+type_fault typing.LiteralRange = codes "literal out of range"
+type_fault typing.Undefined = codes "undefined"
+type_fault typing.DefinedTwice = codes "defined twice"
+type_fault typing.DefinesInput = codes "defines an input"
+type_fault typing.RecursiveNode = codes "recursive node"
+type_fault typing.NoMain = codes "no main"
 
--- why a refusal comes, by the files and by the counts before and after
-abbrev pub IsDue : Command → List ℕ → List ℕ → Option Files → Counts → Counts → Refusal → Type 0
-IsDue command source suite files old new NoSource = CommandRefuses command source suite files status.Missing (no_file source) × OnlyMissingRose old new
-IsDue command source suite files old new NoSuite = CommandRefuses command source suite files status.Missing (no_file suite) × OnlyMissingRose old new
-IsDue command source suite files old new SourceUnread = OnlyReadsRose old new
-IsDue command source suite files old new SuiteUnread = IsReached command source files × OnlyReadsRose old new
-IsDue command source suite files old new SourceNotPlain = CommandRefuses command source suite files status.Source no_plain_source × (new ≡ old)
-IsDue command source suite files old new TooManyPaths = CommandRefuses command source suite files status.Limit over_paths × (new ≡ old)
-IsDue command source suite files old new SuiteNotPlain = CommandRefuses command source suite files status.Unreadable no_plain_suite × (new ≡ old)
-IsDue command source suite files old new Memory = Unit {0}
+abbrev pub suite_fault : SuiteKind → List ℕ
+suite_fault suite.NoHeader = codes "no header"
+suite_fault suite.NoTestColumn = codes "no test column"
+suite_fault suite.UnknownColumn = codes "unknown column"
+suite_fault suite.RepeatedColumn = codes "repeated column"
+suite_fault suite.MissingColumn = codes "missing column"
+suite_fault suite.Width = codes "width"
+suite_fault suite.BadName = codes "bad name"
+suite_fault suite.SplitTest = codes "split test"
+suite_fault suite.BadValue = codes "bad value"
 
--- the bytes of a file of at most 1,048,576 bytes, or only that it has more
-abbrev pub IsRead : Contents → List ℕ → Type 0
-IsRead (Whole bytes) file = (bytes ≡ file) × (length file ≤ 1048576)
-IsRead TooLong file = 1048576 < length file
+-- a kind of fault with the byte where it stands
+abbrev pub at_byte : List ℕ → ℕ → List ℕ
+at_byte kind at = kind ++ (codes " at byte " ++ decimal at)
 
--- why SOURCE is refused
-abbrev pub SourceIsDue : List ℕ → Option Files → Counts → Counts → Refusal → Type 0
-SourceIsDue source files old new NoSource = LacksFile files source × OnlyMissingRose old new
-SourceIsDue source files old new SourceUnread = OnlyReadsRose old new
-SourceIsDue source files old new SourceNotPlain = ((bytes : List ℕ) × HasFile files source bytes × ((node : Node) → IsProgram bytes node → ⊥)) × (new ≡ old)
-SourceIsDue source files old new Memory = Unit {0}
-SourceIsDue source files old new _ = ⊥
+-- the first count over the limit, which is one more
+abbrev pub over_limit : List ℕ → ℕ → List ℕ
+over_limit word most = codes "limit: " ++ (word ++ (codes " " ++ (decimal (most + 1) ++ (codes " > " ++ decimal most))))
 
--- why SUITE is refused, for a program with these inputs
-abbrev pub SuiteIsDue : List ℕ → List Name → Option Files → Counts → Counts → Refusal → Type 0
-SuiteIsDue suite inputs files old new NoSuite = LacksFile files suite × OnlyMissingRose old new
-SuiteIsDue suite inputs files old new SuiteUnread = OnlyReadsRose old new
-SuiteIsDue suite inputs files old new SuiteNotPlain = ((bytes : List ℕ) × HasFile files suite bytes × ((tests : List Test) → IsPlainSuite inputs bytes tests → ⊥)) × (new ≡ old)
-SuiteIsDue suite inputs files old new Memory = Unit {0}
-SuiteIsDue suite inputs files old new _ = ⊥
+-- what a refusal says; want of memory says nothing
+abbrev pub message_of : Refusal → List ℕ
+message_of Usage = codes "usage"
+message_of (NoFile name) = codes "no file " ++ name
+message_of (CannotRead name) = codes "cannot read " ++ name
+message_of (BadByte at) = at_byte (codes "bad byte") at
+message_of (OpenComment at) = at_byte (codes "open comment") at
+message_of (WideLiteral at) = at_byte (codes "wide literal") at
+message_of (Syntax at) = at_byte (codes "syntax") at
+message_of (Typing kind at) = at_byte (type_fault kind) at
+message_of (Cycle edge) = codes "cycle at " ++ edge
+message_of (OverLimit quantity most) = over_limit (word_of quantity) most
+message_of (Suite kind record') = codes "suite record " ++ (decimal record' ++ (codes ": " ++ suite_fault kind))
+message_of Memory = []
+
+abbrev pub line_of : Refusal → List ℕ
+line_of why = codes "lustrocov: " ++ (message_of why ++ 10 ∷ [])

@@ -1,11 +1,65 @@
--- A node of the code, as its names and its items.
-use Rattle.cov_station.specs.declared.node.Node.{Node as View}
-use Rattle.cov_station.specs.Nodes.{Node, names_of}
+-- What stands in the code for a source, for paths and for a job.
+use Rattle.std.specs.Prelude.{◌≡◌, ◌≤◌, All, List, Some, length}
+use Rattle.cov_words.specs.declared.job.Job.{Job}
+use Rattle.cov_words.specs.declared.limits.TheConstants.{LEAST_LENGTH, LEAST_WIDTH, MOST_LENGTH, MOST_WIDTH}
+use Rattle.cov_words.specs.Jobs.{Asked, asked}
+use Rattle.dep_paths.specs.declared.limits.TheConstants.{MOST_PATHS}
+use Rattle.dep_paths.specs.declared.path.Path.{Path}
+use Rattle.dep_paths.specs.Duties.{Planned, duties}
+use Rattle.dep_paths.specs.Paths.{path_length}
+use Rattle.lus_causality.specs.declared.ordered.OrderCause.{OrderCause}
+use Rattle.lus_causality.specs.declared.ordered.OrderCause.TheVariants as cause
+use Rattle.lus_causality.specs.Ordered.{Causal}
+use Rattle.lus_types.specs.declared.typed.Typed.{Typed}
+use Rattle.lus_types.specs.Programs.{Node}
+use Rattle.node_expand.specs.Law.{HasItsStreamsIn, KeepsStreamsIn, main_name, program_in}
+use Rattle.node_expand.specs.Ports.{HasPorts}
+use Rattle.op_network.specs.declared.edge.Edge.{Edge}
+use Rattle.op_network.specs.declared.edge.Parts.{Parts}
+use Rattle.cov_station.specs.declared.refusal.Refusal.{Refusal}
+use Rattle.cov_station.specs.declared.refusal.Refusal.TheVariants.{Cycle, Memory}
+use Rattle.cov_station.specs.Sources.{Source, name_of, net}
 
-abbrev pub seen : View → Node
-seen view = record {
-  inputs = names_of view.inputs.now;
-  outputs = names_of view.outputs.now;
-  locals = names_of view.locals.now;
-  items = view.items.now;
-}
+-- the source that a typed program is
+abbrev pub source_in : Typed → Source
+source_in typed = record { program = program_in typed; main = main_name typed }
+
+abbrev pub IsTyped : Source → Typed → Type 0
+IsTyped source typed = source ≡ source_in typed
+
+-- The network is that of the source. It runs exactly where the source does, and in each of its runs the variables of
+-- main have the source's streams. Its inputs and outputs have the names and the types of main's.
+pub record IsExpansionOf (source : Source) (parts : Parts) : Type 0 where
+  pub network : parts ≡ net source
+  pub keeps : KeepsStreamsIn source.program source.main (net source)
+  pub streams : HasItsStreamsIn source.program source.main (net source)
+  pub variables : (main : Node) → source.program.node source.main ≡ Some main → HasPorts (net source) main
+
+-- the same of a network with an order of its edges
+pub record IsNetworkOf (source : Source) (ordered : Causal) : Type 0 where
+  pub network : ordered.network ≡ net source
+  pub keeps : KeepsStreamsIn source.program source.main (net source)
+  pub streams : HasItsStreamsIn source.program source.main (net source)
+  pub variables : (main : Node) → source.program.node source.main ≡ Some main → HasPorts (net source) main
+
+-- why edges have no order, as a refusal
+abbrev pub cycle_refusal : List Edge → OrderCause → Refusal
+cycle_refusal edges (cause.Cycle e) = Cycle (name_of edges e)
+cycle_refusal edges cause.Memory = Memory
+
+-- The plan has these paths, and the obligations on them. The paths are within the limit, and as short as it says.
+pub record IsPlanOf (paths : List Path) (plan : Planned) : Type 0 where
+  pub paths_are : plan.paths ≡ paths
+  pub duties_are : plan.duties ≡ duties plan.paths
+  pub few : length plan.paths ≤ MOST_PATHS
+  pub short : All (λ (p : Path). path_length p ≤ plan.length) plan.paths
+
+abbrev pub IsJobOf : Asked → Job → Type 0
+IsJobOf job it = job ≡ asked it
+
+-- the width of a job's words and the length of its paths are in their ranges
+pub record IsInRange (job : Job) : Type 0 where
+  pub narrowest : LEAST_WIDTH ≤ job.width
+  pub widest : job.width ≤ MOST_WIDTH
+  pub shortest : LEAST_LENGTH ≤ job.length
+  pub longest : job.length ≤ MOST_LENGTH

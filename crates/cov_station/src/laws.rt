@@ -1,39 +1,67 @@
-ghost use Rattle.std.specs.Prelude.{◌≡◌, ℕ, List as Seq, Some, length};
-ghost use Rattle.op_network.specs.declared.test.Test.{Test};
-ghost use Rattle.op_network.specs.declared.value.Value.{Value};
-ghost use Rattle.cov_base.specs.Files.{Files};
-ghost use Rattle.cov_station.specs.Answers.{IsProgram, Prints, Refuses};
-ghost use Rattle.cov_station.specs.declared.status.Status.{Status};
-ghost use Rattle.op_network.specs.Run.{IsRun};
-ghost use Rattle.cov_station.specs.Net.{net, word_width};
-ghost use Rattle.cov_station.specs.Nodes.{Name, Node};
-ghost use Rattle.cov_station.specs.RunText.{RunText};
-ghost use Rattle.cov_station.specs.ScoreText.{ScoreText};
-ghost use Rattle.cov_station.specs.Streams.{Stream, HaveLength, NodeRun};
-ghost use Rattle.cov_station.specs.Suites.{IsPlainSuite};
+ghost use Rattle.std.specs.Prelude.{◌≡◌, ℕ, List as Seq, Option, Some, Ok, Err};
+ghost use Rattle.cov_base.specs.Bytes.{Appends, BreaksOff};
+ghost use Rattle.cov_base.specs.Files.{Files, OnlyMissingRose, OnlyReadsRose};
+ghost use Rattle.cov_station.specs.Chains.{Answers, Chain, IsReady};
+ghost use Rattle.cov_station.specs.Commands.{station};
+ghost use Rattle.cov_station.specs.Files.{Counted};
+ghost use Rattle.cov_station.specs.Laws.{Agree, IsReadFault};
+ghost use Rattle.cov_station.specs.Outcomes.{Answer, Outside, Ends, IsRefusal, text};
+ghost use Rattle.cov_station.specs.Refusals.{line_of, status_of};
+ghost use Rattle.cov_station.specs.declared.limits.TheConstants.{MOST_FILE_BYTES};
+ghost use Rattle.cov_station.specs.declared.refusal.Refusal.{Refusal as Why};
+ghost use Rattle.cov_station.specs.declared.status.Status.{Status as End};
+ghost use Rattle.dep_paths.specs.declared.limits.TheConstants.{MOST_PATHS};
+ghost use Rattle.lus_syntax.specs.declared.limits.TheConstants.{MOST_BYTES, MOST_COUNTED};
+ghost use Rattle.node_expand.specs.declared.limits.TheConstants.{MOST_DEPTH};
+ghost use Rattle.op_network.specs.declared.limits.TheConstants.{MOST_EDGES};
+ghost use Rattle.suite_file.specs.declared.limits.TheConstants.{MOST_INSTANTS, MOST_TESTS};
 
-/// A plain program has exactly one run over given inputs, so its text is determined. Does nothing: its
-/// clauses are the law.
-pub fn one_run()
-    ensures exists { (source : Seq ℕ) (node : Node) (n : ℕ) (ins : Seq Stream) → IsProgram source node → length ins ≡ length node.inputs → HaveLength n ins → (outs : Seq Stream) × NodeRun node n ins outs }
-    ensures outputs { (source : Seq ℕ) (node : Node) (n : ℕ) (ins outs others : Seq Stream) → IsProgram source node → NodeRun node n ins outs → NodeRun node n ins others → outs ≡ others }
-    ensures locals { (source : Seq ℕ) (node : Node) (n : ℕ) (ins outs others : Seq Stream) → IsProgram source node → (run : NodeRun node n ins outs) (twin : NodeRun node n ins others) → run.locals ≡ twin.locals }
-    ensures text { (source : Seq ℕ) (node : Node) (tests : Seq Test) (text other : Seq ℕ) → IsProgram source node → RunText node tests text → RunText node tests other → text ≡ other }
-{}
-
-/// The network of a plain program has at most one run over given inputs, and so a score has one text. Does
-/// nothing: its clauses are the law.
-pub fn one_score()
-    ensures frames { (source : Seq ℕ) (node : Node) (rows frames others : Seq (Seq Value)) → IsProgram source node → IsRun word_width (net node).edges rows frames → IsRun word_width (net node).edges rows others → frames ≡ others }
-    ensures text { (source : Seq ℕ) (node : Node) (n : ℕ) (tests : Seq Test) (text other : Seq ℕ) → IsProgram source node → ScoreText node n tests text → ScoreText node n tests other → text ≡ other }
-{}
-
-/// What is printed is determined: a source has at most one program and a suite at most one list of tests;
-/// and for a store that tells its files, the words and the files determine the text that is printed, or
-/// the first refusal, if there is one. Does nothing: its clauses are the law.
+/// The words and the files determine the answer, but for reads that fail, and where the files are
+/// ready nothing else is refused. Does nothing: its clauses are the law.
 pub fn one_answer()
-    ensures program { (source : Seq ℕ) (node other : Node) → IsProgram source node → IsProgram source other → node ≡ other }
-    ensures suite { (inputs : Seq Name) (bytes : Seq ℕ) (tests others : Seq Test) → IsPlainSuite inputs bytes tests → IsPlainSuite inputs bytes others → tests ≡ others }
-    ensures text { (words : Seq (Seq ℕ)) (told : Files) (text other : Seq ℕ) → Prints words (Some told) text → Prints words (Some told) other → text ≡ other }
-    ensures refusal { (words : Seq (Seq ℕ)) (told : Files) (status other : Status) (line another : Seq ℕ) → Refuses words (Some told) status line → Refuses words (Some told) other another → (status ≡ other) × (line ≡ another) }
+    ensures answer { (words : Seq (Seq ℕ)) (told : Files) (a b : Answer) →
+        Answers (station words (Some told)) a → Answers (station words (Some told)) b →
+        Agree a b }
+    ensures ready { (words : Seq (Seq ℕ)) (told : Files) (why : Why) →
+        IsReady (station words (Some told)) → Answers (station words (Some told)) (Err why) →
+        IsReadFault why }
+{}
+
+/// What each status says of the words' command. Does nothing: its clauses are the law.
+pub fn by_status()
+    ensures done { (words : Seq (Seq ℕ)) (files : Option Files) (old new : Outside) →
+        Ends (station words files) old new End.Done →
+        (out : Seq ℕ) × Answers (station words files) (Ok out)
+        × Appends old.written out new.written
+        × (new.counts ≡ old.counts) × (new.faults ≡ old.faults) }
+    ensures refused { (words : Seq (Seq ℕ)) (files : Option Files) (old new : Outside) →
+        (end : End) → Ends (station words files) old new end → IsRefusal end →
+        (why : Why) × Answers (station words files) (Err why) × (end ≡ status_of why)
+        × Appends old.written (line_of why) new.written
+        × Counted {A = Seq ℕ} (Err why) old.counts new.counts
+        × (new.faults ≡ old.faults) }
+    ensures read_fault { (words : Seq (Seq ℕ)) (files : Option Files) (old new : Outside) →
+        Ends (station words files) old new End.ReadFault →
+        (name : Seq ℕ) × Answers (station words files) (Err (Why.CannotRead name))
+        × Appends old.written (line_of (Why.CannotRead name)) new.written
+        × OnlyReadsRose old.counts new.counts × (new.faults ≡ old.faults) }
+    ensures write_fault { (words : Seq (Seq ℕ)) (files : Option Files) (old new : Outside) →
+        Ends (station words files) old new End.WriteFault →
+        (a : Answer) × Answers (station words files) a × Counted a old.counts new.counts
+        × BreaksOff old.written new.written old.faults new.faults (text a) }
+    ensures memory { (words : Seq (Seq ℕ)) (files : Option Files) (old new : Outside) →
+        Ends (station words files) old new End.Memory →
+        (new.written ≡ old.written) × (new.faults ≡ old.faults) }
+{}
+
+/// The limits of a command, as numbers. Does nothing: its clauses are the law.
+pub fn numbers_of_limits()
+    ensures source_bytes { MOST_BYTES ≡ 1048576 }
+    ensures file_bytes { MOST_FILE_BYTES ≡ 268435456 }
+    ensures operators { MOST_COUNTED ≡ 500 }
+    ensures calls { MOST_DEPTH ≡ 100 }
+    ensures edges { MOST_EDGES ≡ 8192 }
+    ensures paths { MOST_PATHS ≡ 20000 }
+    ensures tests { MOST_TESTS ≡ 210000 }
+    ensures instants { MOST_INSTANTS ≡ 7400000 }
 {}

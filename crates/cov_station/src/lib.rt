@@ -1,33 +1,22 @@
-//! The station: what the words of a command line ask, over the files of a store, put into a sink.
+//! The station: it does the commands that coverage of Lustre programs is measured with.
 #![tactic(auto)]
 
-mod build;
-mod check;
 mod commands;
-mod edges;
 mod files;
-mod frames;
 mod laws;
-mod lines;
-mod marks;
-mod name_table;
-mod node;
-mod orders;
-mod own_ops;
-mod program;
-mod reads;
+mod limits;
+mod plans;
 mod refusal;
 mod runs;
 mod scores;
-mod sizes;
+mod source;
 mod status;
 mod suite;
 #[cfg(test)]
 mod tests;
 mod top;
-mod values;
 mod words;
 
-pub use laws::{one_answer, one_run, one_score};
+pub use laws::{by_status, numbers_of_limits, one_answer};
 pub use status::Status;
 pub use top::station;

@@ -1,63 +1,29 @@
-ghost use Rattle.std.specs.Prelude.{◌≡◌, ◌++◌, ◌*◌, IfOk, OnOk, length};
-ghost use Rattle.cov_station.specs.Frames.{AreOutputs};
-ghost use Rattle.cov_station.specs.NetworkText.{NetworkText, values_text};
-ghost use Rattle.cov_station.specs.Order.{IsOrder};
-ghost use Rattle.cov_station.specs.Suites.{ArePlainTests};
+ghost use Rattle.std.specs.Prelude.{All, IfOk};
+ghost use Rattle.op_network.specs.Valid.{FitsTest};
+ghost use Rattle.cov_station.specs.RunText.{RunText};
+ghost use Rattle.cov_station.specs.Sources.{Source};
+ghost use Rattle.cov_station.specs.Views.{IsNetworkOf};
 
-use crate::frames::outputs_over;
-use crate::lines::push_streams;
+mod lines;
+mod network;
+mod playing;
+#[cfg(test)]
+mod tests;
+mod values;
+
 use cov_base::{List, Memory};
-use op_network::{EdgeId, Network, Test, Value};
+use lus_causality::Ordered;
+use network::network_text;
+use op_network::Test;
 use std::alloc::Global;
 
-/// The text of one test, whose outputs have these values, instant by instant.
-fn push_test(
-    text: &mut List<u8>,
-    network: &Network,
-    test: &Test,
-    outputs: &[Value],
-) -> Result<(), Memory>
-    requires inputs { length test.now.values ≡ test.now.instants * length network.now.inputs }
-    requires outputs { length outputs.now ≡ test.now.instants * length network.now.outputs }
-    ensures { OnOk result (text.new ≡ text.old ++ values_text network.now test.now outputs.now) }
+/// The text of a source's runs over tests that fit its network. Linear in the instants times the
+/// edges, and in the length of the text.
+pub(crate) fn run_text(alloc: Global, net: &Ordered, tests: &[Test]) -> Result<List<u8>, Memory>
+    requires { All (FitsTest net.now.network) tests.now }
+    ensures { (source : Source) → IsNetworkOf source net.now →
+        IfOk result (RunText source tests.now) }
 {
-    let parts = network.parts();
-    let edges = parts.edges.as_slice();
-    text.extend_from_slice(b"test ")?;
-    text.extend_from_slice(test.name.bytes())?;
-    text.extend_from_slice(b"\n")?;
-    push_streams(
-        text,
-        edges,
-        parts.inputs.as_slice(),
-        test.instants,
-        test.values.as_slice(),
-    )?;
-    push_streams(
-        text,
-        edges,
-        parts.outputs.as_slice(),
-        test.instants,
-        outputs,
-    )
-}
-
-/// The text of a network's runs over tests, with an order in which its edges can be computed.
-/// Linear in edges times instants.
-pub(crate) fn run_text(
-    alloc: Global,
-    network: &Network,
-    sequence: &[EdgeId],
-    tests: &[Test],
-) -> Result<List<u8>, Memory>
-    requires order { IsOrder network.now.edges sequence.now }
-    requires tests { ArePlainTests (length network.now.inputs) tests.now }
-    ensures { IfOk result (λ text. NetworkText network.now tests.now text) }
-{
-    let mut text = List::new(alloc);
-    for test in tests {
-        let outputs = outputs_over(alloc, network, sequence, test)?;
-        push_test(&mut text, network, test, outputs.as_slice())?;
-    }
-    Ok(text)
+    let _ = net.network().parts();
+    network_text(alloc, net, tests)
 }

@@ -6,7 +6,7 @@ ghost use Rattle.cov_station.specs.Codes.{code_of};
 pub enum Status {
     /// The command was done to its end and all was written.
     Done,
-    /// The words are no command.
+    /// The arguments ask for no command, or for one that isn't done yet.
     Usage,
     /// A file isn't there.
     Missing,
@@ -14,7 +14,7 @@ pub enum Status {
     ReadFault,
     /// The source is refused.
     Source,
-    /// A counted quantity is over its limit: there are too many paths.
+    /// A counted quantity is over its limit.
     Limit,
     /// The suite is refused.
     Unreadable,
@@ -27,7 +27,8 @@ pub enum Status {
 }
 
 impl Status {
-    /// The number with which the program ends: 0 where the command is done, and else 1 to 9. Constant time.
+    /// The number with which the program ends: 0 where the command is done, and else 1 to 9. In
+    /// constant time.
     pub fn code(&self) -> u8
         ensures { result ≡ code_of self.now }
     {

@@ -1,63 +1,51 @@
-ghost use Rattle.std.specs.Prelude.{◌≡◌, ◌≤◌, length, List as Seq, IfOk};
-ghost use Rattle.op_network.specs.declared.test.Test.{Test as TestValue};
-ghost use Rattle.cov_station.specs.NetworkText.{names_of};
-ghost use Rattle.cov_station.specs.Suites.{IsPlainSuite};
-ghost use Rattle.cov_station.specs.SuiteParts.{AreTests};
+ghost use Rattle.std.specs.Prelude.{◌≡◌, All, IfOk};
+ghost use Rattle.cov_base.specs.Files.{NeverFall};
+ghost use Rattle.op_network.specs.Valid.{FitsTest};
+ghost use Rattle.cov_station.specs.Files.{Counted};
+ghost use Rattle.cov_station.specs.Steps.{Does, Same};
+ghost use Rattle.cov_station.specs.Suites.{HoldsTests, ReadsSuite};
 
-mod header;
-mod names;
-mod row;
-mod test;
-#[cfg(test)]
-mod tests;
-
-use cov_base::List;
-use header::header_rest;
-use lus_syntax::PlainFault;
-use names::add_name;
+use crate::files::read_file;
+use crate::limits::MOST_FILE_BYTES;
+use crate::refusal::{Quantity, Refusal};
+use cov_base::{List, Store};
 use op_network::{Network, Test};
 use std::alloc::Global;
-use std::collections::BTreeSet;
-use test::read_test;
+use suite_file::{MOST_INSTANTS, MOST_TESTS, SuiteFault, read_suite};
 
-/// The tests of a plain suite for a network, in the order of the text; `NotPlain` if and only if the
-/// bytes are no plain suite. The cost is linear in the bytes, but for a logarithm of the number of
-/// tests for each test.
-pub(crate) fn read_suite(
-    alloc: Global,
-    bytes: &[u8],
-    network: &Network,
-) -> Result<List<Test>, PlainFault>
-    requires { length bytes.now ≤ 1048576 }
-    ensures tests { IfOk result (λ tests. IsPlainSuite (names_of network.now.edges network.now.inputs) bytes.now tests) }
-    ensures refused { result ≡ Err PlainFault.NotPlain → (tests : Seq TestValue) → IsPlainSuite (names_of network.now.edges network.now.inputs) bytes.now tests → ⊥ }
+/// The tests that bytes hold for a network.
+fn tests_of(alloc: Global, bytes: &[u8], net: &Network) -> Result<List<Test>, Refusal>
+    ensures answer { Does (HoldsTests net.now bytes.now) Same result }
+    ensures fits { IfOk result (λ tests. All (FitsTest net.now) tests) }
 {
-    let parts = network.parts();
-    match header_rest(bytes, parts.edges.as_slice(), parts.inputs.as_slice()) {
-        Some(body) => read_tests(alloc, body, parts.inputs.len()),
-        None => Err(PlainFault::NotPlain),
+    match read_suite(alloc, bytes, net) {
+        Ok(tests) => Ok(tests),
+        Err(
+            SuiteFault::Bad {
+                row,
+                column: _,
+                kind,
+            },
+        ) => Err(Refusal::Suite(kind, row)),
+        Err(SuiteFault::Tests) => Err(Refusal::OverLimit(Quantity::Tests, MOST_TESTS as u32)),
+        Err(SuiteFault::Instants) => { Err(Refusal::OverLimit(Quantity::Instants, MOST_INSTANTS)) }
+        Err(SuiteFault::Memory) => Err(Refusal::Memory),
     }
 }
 
-/// The tests of the lines behind the header.
-fn read_tests(alloc: Global, body: &[u8], width: usize) -> Result<List<Test>, PlainFault>
-    requires { length body.now ≤ 1048576 }
-    ensures tests { IfOk result (λ tests. AreTests width body.now tests) }
-    ensures refused { result ≡ Err PlainFault.NotPlain → (tests : Seq TestValue) → AreTests width body.now tests → ⊥ }
+/// Reads a suite: the tests that it holds for a network.
+pub(crate) fn read_tests<S: Store>(
+    alloc: Global,
+    store: &mut S,
+    name: &str,
+    net: &Network,
+) -> Result<List<Test>, Refusal>
+    ensures answer { Does (ReadsSuite (S.files store.old) name.now net.now) Same result }
+    ensures fits { IfOk result (λ tests. All (FitsTest net.now) tests) }
+    ensures counts { Counted result (S.counts store.old) (S.counts store.new) }
+    ensures never_fall { NeverFall (S.counts store.old) (S.counts store.new) }
+    ensures files { S.files store.new ≡ S.files store.old }
 {
-    let mut tests = List::new(alloc);
-    let mut seen = BTreeSet::new(alloc);
-    let mut rest = body;
-    while !rest.is_empty() {
-        let (test, later) = read_test(alloc, rest, width)?;
-        if !add_name(alloc, &mut seen, test.name.bytes())? {
-            return Err(PlainFault::NotPlain);
-        }
-        match tests.push(test) {
-            Ok(()) => {}
-            Err(_) => return Err(PlainFault::Memory),
-        }
-        rest = later;
-    }
-    Ok(tests)
+    let bytes = read_file(alloc, store, name, MOST_FILE_BYTES)?;
+    tests_of(alloc, bytes.as_slice(), net)
 }

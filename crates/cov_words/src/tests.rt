@@ -79,7 +79,7 @@ fn reads_each_command_without_options(rt: HostRuntime) -> Result<(), Fail> {
 }
 
 #[test]
-fn reads_each_command_with_all_options(rt: HostRuntime) -> Result<(), Fail> {
+fn reads_commands_over_suites_with_all_options(rt: HostRuntime) -> Result<(), Fail> {
     let run = Job {
         main: Some("m"),
         width: 2,
@@ -98,6 +98,24 @@ fn reads_each_command_with_all_options(rt: HostRuntime) -> Result<(), Fail> {
         length: 64,
         ..plain(Verb::Session, "e.lus", "a.csv")
     };
+    for (line, want) in [
+        ("run e.lus a.csv --main m --width 2", run),
+        (
+            "score --json --length 1 e.lus --main m a.csv --width 32",
+            score,
+        ),
+        (
+            "session e.lus a.csv s.txt --main m --width 31 --length 64",
+            session,
+        ),
+    ] {
+        expect(&rt, rt.alloc(), line, Ok(want))?;
+    }
+    Ok(())
+}
+
+#[test]
+fn reads_commands_with_bounds_with_all_options(rt: HostRuntime) -> Result<(), Fail> {
     let generate = Job {
         main: Some("m"),
         width: 16,
@@ -123,15 +141,6 @@ fn reads_each_command_with_all_options(rt: HostRuntime) -> Result<(), Fail> {
         ..plain(Verb::Make, "", "")
     };
     for (line, want) in [
-        ("run e.lus a.csv --main m --width 2", run),
-        (
-            "score --json --length 1 e.lus --main m a.csv --width 32",
-            score,
-        ),
-        (
-            "session e.lus a.csv s.txt --main m --width 31 --length 64",
-            session,
-        ),
         (
             "generate e.lus a.csv --main m --width 16 --length 63 --k 32 --budget 100000 --out d",
             generate,
@@ -205,6 +214,15 @@ fn refuses_other_command_lines(rt: HostRuntime) -> Result<(), Fail> {
         "run a b --main m --main m",
         "score a b --json --json",
         "run a b --width 8 --width 8",
+    ] {
+        expect(&rt, rt.alloc(), line, Err(WordsFault::Usage))?;
+    }
+    Ok(())
+}
+
+#[test]
+fn refuses_other_numbers_and_names(rt: HostRuntime) -> Result<(), Fail> {
+    for line in [
         "run a b --width=1",
         "run a b --width 1",
         "run a b --width 33",

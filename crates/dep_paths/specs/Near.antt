@@ -1,4 +1,4 @@
--- How FAR an output is.
+-- How far edges are from the outputs.
 use Rattle.std.specs.Prelude.{◌≡◌, ◌<◌, ◌≤◌, ◌+◌, ℕ, List, Some, length, slice_index_or}
 use Rattle.op_network.specs.declared.edge.Edge.{Edge}
 use Rattle.op_network.specs.declared.edge.EdgeId.{EdgeId}

@@ -140,9 +140,11 @@ fn add_from(
     next: &mut List<Path>,
 ) -> Result<(), Stop>
     requires { length next.old ≤ MOST_PATHS }
-    ensures ok { OnOk result (next.new ≡ next.old ++ map (pushed path) (row_at rows.now (last_of path).0)) }
+    ensures ok { OnOk result (next.new
+        ≡ next.old ++ map (pushed path) (row_at rows.now (last_of path).0)) }
     ensures few { OnOk result (length next.new ≤ MOST_PATHS) }
-    ensures many { result ≡ Err Stop.TooMany → MOST_PATHS < length next.old + length (row_at rows.now (last_of path).0) }
+    ensures many { result ≡ Err Stop.TooMany →
+        MOST_PATHS < length next.old + length (row_at rows.now (last_of path).0) }
 {
     let at = last(&path).0 as usize;
     if at >= rows.len() {
@@ -159,7 +161,8 @@ pub(crate) fn longer(
 ) -> Result<List<Path>, Stop>
     ensures ok { IfOk result (λ next. next ≡ longer_paths (row_at rows.now) level) }
     ensures few { IfOk result (λ next. length next ≤ MOST_PATHS) }
-    ensures many { result ≡ Err Stop.TooMany → MOST_PATHS < length (longer_paths (row_at rows.now) level) }
+    ensures many { result ≡ Err Stop.TooMany →
+        MOST_PATHS < length (longer_paths (row_at rows.now) level) }
 {
     let mut next = List::new(alloc);
     let mut rest = level.into_vec();
@@ -189,7 +192,8 @@ fn add_if_complete(
     requires { length found.old ≤ MOST_PATHS }
     ensures ok { OnOk result (found.new ≡ found.old ++ filter (ends_at near.now) (path.now ∷ [])) }
     ensures few { OnOk result (length found.new ≤ MOST_PATHS) }
-    ensures many { result ≡ Err Stop.TooMany → MOST_PATHS < length (found.old ++ filter (ends_at near.now) (path.now ∷ [])) }
+    ensures many { result ≡ Err Stop.TooMany →
+        MOST_PATHS < length (found.old ++ filter (ends_at near.now) (path.now ∷ [])) }
 {
     if !is_complete(path, near) {
         return Ok(());
@@ -211,7 +215,8 @@ pub(crate) fn add_complete(
     requires { length found.old ≤ MOST_PATHS }
     ensures ok { OnOk result (found.new ≡ found.old ++ filter (ends_at near.now) level.now) }
     ensures few { OnOk result (length found.new ≤ MOST_PATHS) }
-    ensures many { result ≡ Err Stop.TooMany → MOST_PATHS < length (found.old ++ filter (ends_at near.now) level.now) }
+    ensures many { result ≡ Err Stop.TooMany →
+        MOST_PATHS < length (found.old ++ filter (ends_at near.now) level.now) }
 {
     for path in level {
         add_if_complete(alloc, path, near, found)?;

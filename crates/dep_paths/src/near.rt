@@ -21,7 +21,8 @@ fn relax_step(net: &Network, step: Step, near: &mut [u32])
     ensures all { AllNear near.new }
     ensures sound { IsSound net.now near.new }
     ensures lower { NoneRose near.old near.new }
-    ensures done { (e : Id) → operand_of net.now.edges step ≡ Some e → near_at near.new e ≤ near_at near.old step.edge + 1 }
+    ensures done { (e : Id) → operand_of net.now.edges step ≡ Some e →
+        near_at near.new e ≤ near_at near.old step.edge + 1 }
 {
     let before = net.operand(step.edge, step.port);
     let way = near[step.edge.0 as usize];
@@ -39,7 +40,8 @@ fn relax_edge(net: &Network, edge: EdgeId, near: &mut [u32])
     ensures all { AllNear near.new }
     ensures sound { IsSound net.now near.new }
     ensures lower { NoneRose near.old near.new }
-    ensures done { CountsPorts net.now.edges edge (length (operands_of net.now.edges edge)) near.old near.new }
+    ensures done { CountsPorts net.now.edges edge
+        (length (operands_of net.now.edges edge)) near.old near.new }
 {
     for port in 0..net.ports(edge) {
         relax_step(net, Step { edge, port }, near);

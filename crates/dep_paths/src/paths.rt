@@ -22,7 +22,8 @@ pub fn list(alloc: Global, net: &Network, n: u32) -> Result<List<Path>, PlanFaul
     ensures paths { IfOk result (λ ps. IsListOf net.now n ps) }
     ensures few { IfOk result (λ ps. length ps ≤ MOST_PATHS) }
     ensures many { result ≡ Err PlanFault.Paths → MoreThan MOST_PATHS net.now n }
-    ensures exact { MoreThan MOST_PATHS net.now n → (result ≡ Err PlanFault.Paths) ⊎ (result ≡ Err PlanFault.Memory) }
+    ensures exact { MoreThan MOST_PATHS net.now n →
+        (result ≡ Err PlanFault.Paths) ⊎ (result ≡ Err PlanFault.Memory) }
     ensures never { result ≡ Err PlanFault.Obligations → ⊥ }
 {
     let Ok(near) = distances(alloc, net, n - 1) else {

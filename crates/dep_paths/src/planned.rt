@@ -28,7 +28,8 @@ impl Plan {
         conditions: List<Condition>,
         duties: List<Obligation>,
     ) -> Plan
-        ensures { result ≡ record { length = length; paths = paths; conditions = conditions; duties = duties } }
+        ensures { result
+            ≡ record { length = length; paths = paths; conditions = conditions; duties = duties } }
     {
         Plan {
             length,

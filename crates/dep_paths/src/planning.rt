@@ -40,7 +40,8 @@ pub fn plan(alloc: Global, net: &Network, n: u32) -> Result<Plan, PlanFault>
     ensures conditions { IfOk result (λ plan. plan.conditions ≡ []) }
     ensures duties { IfOk result (λ plan. plan.duties ≡ duties plan.paths) }
     ensures many { result ≡ Err PlanFault.Paths → MoreThan MOST_PATHS net.now n }
-    ensures exact { MoreThan MOST_PATHS net.now n → (result ≡ Err PlanFault.Paths) ⊎ (result ≡ Err PlanFault.Memory) }
+    ensures exact { MoreThan MOST_PATHS net.now n →
+        (result ≡ Err PlanFault.Paths) ⊎ (result ≡ Err PlanFault.Memory) }
     ensures never { result ≡ Err PlanFault.Obligations → ⊥ }
 {
     let paths = list(alloc, net, n)?;

@@ -44,7 +44,8 @@ fn add_readers(
     requires edge { edge.0 < length net.now.edges }
     requires near { length near.now ≡ length net.now.edges }
     requires rows { length rows.old ≡ length net.now.edges }
-    ensures { OnOk result (AddsReaders net.now.edges near.now room (steps_into net.now.edges edge.0) rows.old rows.new) }
+    ensures { OnOk result (AddsReaders net.now.edges near.now room
+        (steps_into net.now.edges edge.0) rows.old rows.new) }
 {
     for port in 0..net.ports(edge) {
         add_reader(net, near, room, Step { edge, port }, rows)?;

@@ -33,9 +33,11 @@ fn add_start(
 ) -> Result<(), Stop>
     requires edge { input.0 < length near.now }
     requires few { length paths.old ≤ MOST_PATHS }
-    ensures ok { OnOk result (paths.new ≡ paths.old ++ map start_path (filter (is_near_of near.now room) (input ∷ []))) }
+    ensures ok { OnOk result (paths.new
+        ≡ paths.old ++ map start_path (filter (is_near_of near.now room) (input ∷ []))) }
     ensures few { OnOk result (length paths.new ≤ MOST_PATHS) }
-    ensures many { result ≡ Err Stop.TooMany → MOST_PATHS < length (paths.old ++ map start_path (filter (is_near_of near.now room) (input ∷ []))) }
+    ensures many { result ≡ Err Stop.TooMany → MOST_PATHS
+        < length (paths.old ++ map start_path (filter (is_near_of near.now room) (input ∷ []))) }
 {
     if !is_near(near, room, input) {
         return Ok(());
@@ -53,7 +55,8 @@ fn starts(alloc: Global, inputs: &[EdgeId], near: &[u32], room: u32) -> Result<L
     requires { All (λ (e : Id). e.0 < length near.now) inputs.now }
     ensures ok { IfOk result (λ ps. ps ≡ first_level inputs.now near.now room) }
     ensures few { IfOk result (λ ps. length ps ≤ MOST_PATHS) }
-    ensures many { result ≡ Err Stop.TooMany → MOST_PATHS < length (first_level inputs.now near.now room) }
+    ensures many { result ≡ Err Stop.TooMany →
+        MOST_PATHS < length (first_level inputs.now near.now room) }
 {
     let mut paths = List::new(alloc);
     for input in inputs {

@@ -1,17 +1,16 @@
 -- A token and what may stand behind it: it is cut there.
-use Rattle.std.proofs.Common.{◌≡◌, ◌⊎◌, inl, inr, ℕ, zero, suc, ◌+◌, ◌<◌, ◌≤◌, Bool, true, false, cond, List, [], ◌∷◌, ◌++◌, length, take, get_or, ◌-◌, refl, sym, ap, ◌∙◌, subst, arith, length-append, true≢false}
-use Rattle.std.specs.Prelude.{Option, Some, None, ◌==◌, ◌&&◌, ◌||◌}
-use Rattle.std.specs.Char.{is_ascii_digit, is_ascii_alphabetic}
+use Rattle.std.proofs.Common.{◌≡◌, ◌⊎◌, inl, inr, ℕ, zero, suc, ◌<◌, ◌≤◌, Bool, true, false, cond, List, [], ◌∷◌, ◌++◌, length, take, get_or, ◌-◌, refl, sym, ap, ◌∙◌, subst, arith, length-append, true≢false}
+use Rattle.std.specs.Prelude.{Option, Some, None, ◌==◌, ◌&&◌}
+use Rattle.std.specs.Char.{is_ascii_digit}
 use Rattle.std.proofs.Math.Seq.{take-append_seam}
 use Rattle.std.proofs.lemmas.Bool.Decides.{nat_tests}
 use Rattle.lus_syntax.specs.declared.token.Symbol.{Symbol}
 use Rattle.lus_syntax.specs.declared.token.Symbol.TheVariants as sign
 use Rattle.lus_syntax.specs.declared.token.TokenKind.{TokenKind}
-use Rattle.lus_syntax.specs.declared.token.TokenKind.TheVariants.{Sign}
 use Rattle.std.specs.Str.{bytes_eq}
 use Rattle.std.proofs.lemmas.Slice.Eq.{bytes_eq-Decides}
-use Rattle.lus_syntax.specs.Words.{is_letter, is_part, every, kind_of, name_or, word_of, signed, sign_of, sign_among, sign_text, signs}
-use Rattle.lus_syntax.specs.Cuts.{IsLongest, IsDense, is_blank, is_blank_first, opens_line, opens_block}
+use Rattle.lus_syntax.specs.Words.{is_letter, is_part, every, kind_of, signed, sign_of, sign_among, sign_text, signs}
+use Rattle.lus_syntax.specs.Cuts.{IsLongest, IsDense, is_blank}
 use Rattle.lus_syntax.specs.Phrases.{is_tight}
 use Rattle.lus_syntax.proofs.LongestTokens.{kind_no_name, kind_no_digits, kind_sign, longer_sign}
 

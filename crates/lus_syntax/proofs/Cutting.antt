@@ -1,7 +1,7 @@
 use Rattle.std.proofs.Common.{◌≡◌, ℕ, ◌+◌, ◌≤◌, true, List, [], ◌∷◌, ◌++◌, length, drop, arith, length-drop, subst}
 use Rattle.std.specs.Prelude.{Ok}
-use Rattle.lus_syntax.specs.declared.pieces.Piece.{Piece}
-use Rattle.lus_syntax.specs.declared.pieces.Piece.TheVariants as piece
+use Rattle.lus_syntax.specs.declared.tokens.pieces.Piece.{Piece}
+use Rattle.lus_syntax.specs.declared.tokens.pieces.Piece.TheVariants as piece
 use Rattle.lus_syntax.specs.declared.token.TokenKind.{TokenKind}
 use Rattle.lus_syntax.specs.declared.token.Token.{Token}
 use Rattle.lus_syntax.specs.Pieces.{Begins}

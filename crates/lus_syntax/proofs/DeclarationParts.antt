@@ -1,6 +1,5 @@
 -- The parts of a declaration, as parts one behind another.
 use Rattle.std.proofs.Common.{◌≡◌, ◌⊎◌, ℕ, true, List, [], ◌∷◌, ◌++◌, refl, sym, ap, ◌∙◌, subst, append_assoc, inl, inr}
-use Rattle.std.proofs.lemmas.List.{append-nil}
 use Rattle.std.specs.Prelude.{Option, Some, None}
 use Rattle.lus_syntax.specs.declared.token.Token.{Token}
 use Rattle.lus_syntax.specs.declared.token.TokenKind.{TokenKind}
@@ -13,13 +12,13 @@ use Rattle.lus_syntax.specs.declared.ast.Expr.{Expr}
 use Rattle.lus_syntax.specs.declared.ast.Group.{Group}
 use Rattle.lus_syntax.specs.declared.ast.Item.{Item}
 use Rattle.lus_syntax.specs.declared.ast.Spot.{Spot}
-use Rattle.lus_syntax.specs.declared.declarations.Body.{Body}
-use Rattle.lus_syntax.specs.declared.declarations.Constant.{Constant}
-use Rattle.lus_syntax.specs.declared.declarations.Heading.{Heading}
-use Rattle.lus_syntax.specs.Grammar.{spot, is_type, DerivesWhole, DerivesNames, DerivesInputs, DerivesOutputs, DerivesLocals, DerivesItems, MayEnd, unended, ended, MayClose, unclosed, by_semicolon, by_dot, DerivesType, untyped, typed, DerivesDecl, type_decl, const_with_value, const_without_value, node_decl, DerivesDecls, no_decls, more_decls}
-use Rattle.lus_syntax.specs.Parts.{Lacks, Alike, Takes, IsStuck, EndsExpr}
+use Rattle.lus_syntax.specs.declared.grammar.declarations.Body.{Body}
+use Rattle.lus_syntax.specs.declared.grammar.declarations.Constant.{Constant}
+use Rattle.lus_syntax.specs.declared.grammar.declarations.Heading.{Heading}
+use Rattle.lus_syntax.specs.Grammar.{spot, is_type, DerivesNames, DerivesInputs, DerivesOutputs, DerivesLocals, DerivesItems, MayEnd, unended, ended, MayClose, unclosed, by_semicolon, by_dot, untyped, typed, DerivesDecl, type_decl, const_with_value, const_without_value, node_decl, DerivesDecls, no_decls, more_decls}
+use Rattle.lus_syntax.specs.Parts.{Alike}
 use Rattle.lus_syntax.specs.Sections.{Anything, OneToken, Nothing, Sequence, Either, one, other, Many, none, more, IsToken, IsName, IsType, NoComma, NoItem, LocalsAndLet, Opening, Ended, opens_item, EndsDecl, Choices, TypeParts, MayValue, ConstTail, ConstParts, IsCloser, Closing, Signature, Definition, NodeParts, AtEnd}
-use Rattle.lus_syntax.proofs.Readers.{Part, Leads, Opens, Same, Never, Apart, Repeats, lacks_alike, leads_anywhere, leads_opened, leads_barred, token_part, token_opens, kind_part, same_part, same_opens, sequence_part, sequence_opens, either_part, either_opens, apart_opened, nothing_part, part_before, many_part, opens_more, never_opened, differ, token_front, token_value, one_token, sequence}
+use Rattle.lus_syntax.proofs.Readers.{Part, Leads, Opens, Same, Apart, Repeats, lacks_alike, leads_anywhere, leads_opened, leads_barred, token_part, token_opens, kind_part, same_part, same_opens, sequence_part, sequence_opens, either_part, either_opens, apart_opened, nothing_part, part_before, many_part, opens_more, differ, token_front, token_value, one_token, sequence}
 use Rattle.lus_syntax.proofs.NamesAndGroups.{name_part, type_part, names_part}
 use Rattle.lus_syntax.proofs.Params.{inputs_part, outputs_part, opening_part}
 use Rattle.lus_syntax.proofs.Equations.{ended_part, ended_made, items_same, item_after_item}

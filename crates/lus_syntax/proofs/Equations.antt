@@ -1,5 +1,5 @@
 -- The parts of an item, as parts one behind another.
-use Rattle.std.proofs.Common.{◌≡◌, ◌⊎◌, ℕ, Bool, true, false, List, [], ◌∷◌, ◌++◌, refl, sym, ap, ◌∙◌, subst, append_assoc, inl, inr}
+use Rattle.std.proofs.Common.{◌≡◌, ◌⊎◌, ℕ, true, List, [], ◌∷◌, ◌++◌, refl, sym, ap, ◌∙◌, subst, append_assoc, inl, inr}
 use Rattle.lus_syntax.specs.declared.token.Token.{Token}
 use Rattle.lus_syntax.specs.declared.token.TokenKind.{TokenKind}
 use Rattle.lus_syntax.specs.declared.token.TokenKind.TheVariants.{Name, Word, Sign}
@@ -12,9 +12,9 @@ use Rattle.lus_syntax.specs.declared.ast.Spot.{Spot}
 use Rattle.lus_syntax.specs.Operators.{infix_of}
 use Rattle.std.specs.Prelude.{None}
 use Rattle.lus_syntax.specs.Grammar.{DerivesWhole, DerivesNames, DerivesLeft, bare_left, left_in_parens, DerivesItem, assertion, equation, DerivesItems, no_items, more_items}
-use Rattle.lus_syntax.specs.Parts.{Lacks, Alike, Takes, IsStuck, EndsExpr}
-use Rattle.lus_syntax.specs.Sections.{Anything, OneToken, Sequence, Either, one, other, Many, none, more, IsToken, NoComma, Ended, LeftAndEquals, opens_item, NoItem}
-use Rattle.lus_syntax.proofs.Readers.{Part, Leads, Opens, Same, Never, Repeats, Passes, bars_alike, leads_anywhere, leads_opened, token_part, token_opens, kind_part, same_part, same_opens, sequence_part, sequence_opens, either_part, either_opens, apart_opened, opens_more, never_opened, never_sequence}
+use Rattle.lus_syntax.specs.Parts.{Alike, EndsExpr}
+use Rattle.lus_syntax.specs.Sections.{Anything, Sequence, Either, one, other, Many, none, more, IsToken, NoComma, Ended, LeftAndEquals, opens_item, NoItem}
+use Rattle.lus_syntax.proofs.Readers.{Part, Leads, Opens, Same, Never, Repeats, bars_alike, leads_anywhere, leads_opened, token_opens, kind_part, same_part, same_opens, sequence_part, sequence_opens, either_part, either_opens, apart_opened, opens_more, never_opened}
 use Rattle.lus_syntax.proofs.NamesAndGroups.{names_part, names_opens}
 use Rattle.lus_syntax.proofs.OneExpression.{whole_once, whole_some}
 

@@ -2,8 +2,8 @@
 use Rattle.std.proofs.Common.{◌≡◌, ℕ, Bool, true, false, List, [], ◌∷◌, ◌++◌, length, refl, sym, ap, ◌∙◌, subst, append_assoc, arith}
 use Rattle.std.specs.Prelude.{Some, None, Result, Ok, Err, IfOk, IfErr}
 use Rattle.std.specs.Borrow.{Bor}
-use Rattle.lus_syntax.specs.declared.fault.PartFault.{PartFault}
-use Rattle.lus_syntax.specs.declared.fault.PartFault.TheVariants.{Stuck, Memory}
+use Rattle.lus_syntax.specs.declared.grammar.fault.PartFault.{PartFault}
+use Rattle.lus_syntax.specs.declared.grammar.fault.PartFault.TheVariants.{Stuck, Memory}
 use Rattle.lus_syntax.specs.declared.token.Token.{Token}
 use Rattle.lus_syntax.specs.declared.token.TokenKind.TheVariants.{Name, Word, Sign}
 use Rattle.lus_syntax.specs.declared.token.Keyword.TheVariants as word

@@ -8,8 +8,8 @@ use Rattle.lus_syntax.specs.declared.token.Keyword.TheVariants as word
 use Rattle.lus_syntax.specs.declared.token.Symbol.TheVariants as sign
 use Rattle.lus_syntax.specs.declared.ast.Expr.{Expr}
 use Rattle.lus_syntax.specs.declared.ast.ExprKind.TheVariants as tree
-use Rattle.lus_syntax.specs.declared.fault.PartFault.{PartFault}
-use Rattle.lus_syntax.specs.declared.fault.PartFault.TheVariants.{Stuck, Memory}
+use Rattle.lus_syntax.specs.declared.grammar.fault.PartFault.{PartFault}
+use Rattle.lus_syntax.specs.declared.grammar.fault.PartFault.TheVariants.{Stuck, Memory}
 use Rattle.lus_syntax.specs.declared.operators.Infix.{Infix}
 use Rattle.lus_syntax.specs.declared.operators.Prefix.{Prefix}
 use Rattle.lus_syntax.specs.Grammar.{node, spelling}

@@ -1,5 +1,5 @@
 -- Trees, level by level.
-use Rattle.std.proofs.Common.{◌≡◌, ℕ, Bool, List, map, refl, ap, ◌∙◌, sym}
+use Rattle.std.proofs.Common.{◌≡◌, ℕ, Bool, List, map, ap, ◌∙◌, sym}
 use Rattle.lus_syntax.specs.declared.ast.UnOp.{UnOp}
 use Rattle.lus_syntax.specs.declared.ast.BinOp.{BinOp}
 use Rattle.lus_syntax.specs.declared.ast.Expr.{Expr, fold_out-Expr, roll-Expr}

@@ -1,17 +1,16 @@
 -- The parts of a group, as parts one behind another.
-use Rattle.std.proofs.Common.{◌≡◌, ℕ, true, List, [], ◌∷◌, ◌++◌, refl, sym, ap, ◌∙◌, subst, append_assoc, false, length}
+use Rattle.std.proofs.Common.{◌≡◌, ℕ, List, [], ◌∷◌, ◌++◌, refl, sym, ap, ◌∙◌, subst, false, length}
 use Rattle.std.specs.Prelude.{Option, Some, None}
 use Rattle.lus_syntax.specs.declared.token.Token.{Token}
-use Rattle.lus_syntax.specs.declared.token.TokenKind.{TokenKind}
 use Rattle.lus_syntax.specs.declared.token.TokenKind.TheVariants.{Name, Word, Sign}
 use Rattle.lus_syntax.specs.declared.token.Keyword.TheVariants as word
 use Rattle.lus_syntax.specs.declared.token.Symbol.TheVariants as sign
 use Rattle.lus_syntax.specs.declared.ast.Group.{Group}
 use Rattle.lus_syntax.specs.declared.ast.Spot.{Spot}
-use Rattle.lus_syntax.specs.Grammar.{spot, is_type, spelling, DerivesNames, last_name, more_names, DerivesClock, no_clock, clock, DerivesGroup, group}
-use Rattle.lus_syntax.specs.Parts.{Lacks, Alike, Takes, IsStuck}
-use Rattle.lus_syntax.specs.Sections.{Anything, OneToken, Nothing, Sequence, Either, one, other, Many, none, more, IsToken, IsName, IsType, NoComma, NoWhen}
-use Rattle.lus_syntax.proofs.Readers.{Part, Leads, Opens, Same, Never, Apart, Repeats, lacks_alike, leads_anywhere, leads_opened, token_part, token_opens, kind_part, same_part, same_opens, sequence_part, sequence_opens, either_part, either_opens, nothing_part, apart_nothing, leads_many, many_part, part_before, stuck_at_once, never_opened}
+use Rattle.lus_syntax.specs.Grammar.{spot, is_type, DerivesNames, last_name, more_names, DerivesClock, no_clock, clock, DerivesGroup, group}
+use Rattle.lus_syntax.specs.Parts.{Alike, IsStuck}
+use Rattle.lus_syntax.specs.Sections.{Anything, Nothing, Sequence, Either, one, other, Many, none, more, IsToken, IsName, IsType, NoComma, NoWhen}
+use Rattle.lus_syntax.proofs.Readers.{Part, Leads, Opens, Same, Apart, Repeats, lacks_alike, leads_anywhere, leads_opened, token_part, token_opens, kind_part, same_part, same_opens, sequence_part, sequence_opens, either_part, nothing_part, many_part, part_before, stuck_at_once, never_opened}
 
 pub name_part : (text : List ℕ) → Part (IsName text) Anything
 name_part text = token_part (record { kind = Name; start = 0; «end» = 0 }) refl

@@ -4,10 +4,10 @@ use Rattle.std.specs.Prelude.{◌==◌, ◌&&◌}
 use Rattle.std.proofs.lemmas.Bool.Decides.{nat_tests}
 use Rattle.lus_syntax.specs.declared.token.TokenKind.{TokenKind}
 use Rattle.lus_syntax.specs.declared.token.TokenKind.TheVariants.{Number}
-use Rattle.lus_syntax.specs.declared.lexer.LexFault.{LexFault}
-use Rattle.lus_syntax.specs.declared.lexer.LexFault.TheVariants as fault
-use Rattle.lus_syntax.specs.declared.pieces.Cause.{Cause}
-use Rattle.lus_syntax.specs.declared.pieces.Cause.TheVariants.{BadByte, OpenComment, WideLiteral}
+use Rattle.lus_syntax.specs.declared.tokens.lexer.LexFault.{LexFault}
+use Rattle.lus_syntax.specs.declared.tokens.lexer.LexFault.TheVariants as fault
+use Rattle.lus_syntax.specs.declared.tokens.pieces.Cause.{Cause}
+use Rattle.lus_syntax.specs.declared.tokens.pieces.Cause.TheVariants.{BadByte, OpenComment, WideLiteral}
 use Rattle.lus_syntax.specs.declared.token.Token.{Token}
 use Rattle.lus_syntax.specs.Pieces.{Stuck, fault_at}
 use Rattle.lus_syntax.specs.Cuts.{IsLongest, IsNarrow, Fails, IsCutTo, IsUncutAtFault, IsOneFault, NoToken, Skips, blank, line, block, IsDense, Cuts, nothing, skip, token, IsLine, IsClose, is_blank, is_blank_first, opens_line, opens_block}

@@ -4,8 +4,8 @@ use Rattle.std.specs.Prelude.{Option, Some, None, Result, Ok, Err}
 use Rattle.std.specs.Borrow.{Bor}
 use Rattle.lus_syntax.specs.declared.token.Token.{Token}
 use Rattle.lus_syntax.specs.declared.ast.Expr.{Expr}
-use Rattle.lus_syntax.specs.declared.fault.PartFault.{PartFault}
-use Rattle.lus_syntax.specs.declared.fault.PartFault.TheVariants.{Stuck, Memory}
+use Rattle.lus_syntax.specs.declared.grammar.fault.PartFault.{PartFault}
+use Rattle.lus_syntax.specs.declared.grammar.fault.PartFault.TheVariants.{Stuck, Memory}
 use Rattle.lus_syntax.specs.declared.operators.Infix.{Infix}
 use Rattle.lus_syntax.specs.Grammar.{DerivesWhole, DerivesExpr}
 use Rattle.lus_syntax.specs.Operators.{infix_of, loosest}

@@ -1,5 +1,5 @@
 -- What is printed for an expression, operand by operand.
-use Rattle.std.proofs.Common.{◌≡◌, ℕ, Bool, false, List, [], ◌∷◌, ◌++◌, map, ap, ◌∙◌, sym}
+use Rattle.std.proofs.Common.{◌≡◌, ℕ, Bool, false, List, [], ◌∷◌, ◌++◌, map, ap}
 use Rattle.lus_syntax.specs.declared.ast.BinOp.{BinOp}
 use Rattle.lus_syntax.specs.declared.ast.Expr.{Expr}
 use Rattle.lus_syntax.specs.declared.ast.ExprKind.{Two, Cond, Call}
@@ -7,7 +7,7 @@ use Rattle.lus_syntax.specs.declared.token.Keyword.TheVariants as word
 use Rattle.lus_syntax.specs.declared.token.Symbol.TheVariants as sign
 use Rattle.lus_syntax.specs.declared.token.TokenKind.{TokenKind}
 use Rattle.lus_syntax.specs.Words.{word_text, sign_text}
-use Rattle.lus_syntax.specs.Phrases.{Lexeme, Phrase, phrase, written, write_one, operand, fits_left, fits_right, two_kind, kind_text, fixed, keyword, symbol, name, blank, joined, arguments}
+use Rattle.lus_syntax.specs.Phrases.{Phrase, phrase, written, write_one, operand, fits_left, fits_right, two_kind, fixed, keyword, symbol, name, blank, joined, arguments}
 use Rattle.lus_syntax.proofs.Writing.{written_append}
 use Rattle.lus_syntax.proofs.Levels.{phrase_two, phrase_cond, phrase_call}
 

@@ -8,9 +8,9 @@ use Rattle.lus_syntax.specs.declared.token.Keyword.TheVariants as word
 use Rattle.lus_syntax.specs.declared.token.Symbol.TheVariants as sign
 use Rattle.lus_syntax.specs.declared.ast.Group.{Group}
 use Rattle.lus_syntax.specs.Grammar.{DerivesGroup, DerivesParams, last_params, last_params_ended, more_params, DerivesInputs, no_inputs, inputs, DerivesOutputs, outputs, DerivesLines, last_line, more_lines, DerivesLocals, no_locals, locals}
-use Rattle.lus_syntax.specs.Parts.{Lacks, Alike, Takes, IsStuck}
+use Rattle.lus_syntax.specs.Parts.{Lacks, Takes}
 use Rattle.lus_syntax.specs.Sections.{Anything, OneToken, Sequence, Either, one, other, Many, none, more, IsToken, NoWhen, NoName, Closed, Line, LocalsAndLet, Opening}
-use Rattle.lus_syntax.proofs.Readers.{Part, Leads, Opens, Same, Never, Repeats, OneAndMore, Passes, Partway, lacks_alike, leads_anywhere, leads_opened, token_part, token_opens, token_taken, kind_part, same_part, same_opens, same_takes, sequence_part, sequence_opens, either_part, either_opens, apart_opened, many_part, leads_many, takes_both, takes_one, takes_other, never_opened, never_sequence, pass, pass_same, pass_first, pass_second, pass_one, pass_other, opens_more}
+use Rattle.lus_syntax.proofs.Readers.{Part, Leads, Opens, Same, Never, Repeats, OneAndMore, Passes, Partway, lacks_alike, leads_anywhere, leads_opened, token_part, token_opens, token_taken, kind_part, same_part, same_opens, same_takes, sequence_part, sequence_opens, either_part, either_opens, apart_opened, many_part, takes_both, takes_other, never_opened, pass, pass_same, pass_second, pass_one, pass_other, opens_more}
 use Rattle.lus_syntax.proofs.NamesAndGroups.{group_part, group_opens}
 
 -- what stands behind a group, up to the `)`

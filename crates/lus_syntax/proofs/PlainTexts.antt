@@ -3,8 +3,8 @@ use Rattle.std.proofs.Common.{◌≡◌, ℕ, List, length, sym, subst}
 use Rattle.std.specs.Prelude.{Result, Ok, Err, IfOk}
 use Rattle.lus_syntax.specs.declared.ast.Ast.{Ast}
 use Rattle.lus_syntax.specs.declared.plain.fault.PlainFault.{PlainFault}
-use Rattle.lus_syntax.specs.declared.lexer.LexFault.{LexFault}
-use Rattle.lus_syntax.specs.declared.lexer.LexFault.TheVariants.{Memory}
+use Rattle.lus_syntax.specs.declared.tokens.lexer.LexFault.{LexFault}
+use Rattle.lus_syntax.specs.declared.tokens.lexer.LexFault.TheVariants.{Memory}
 use Rattle.lus_syntax.specs.declared.token.Token.{Token}
 use Rattle.lus_syntax.specs.Crowding.{IsCrowd}
 use Rattle.lus_syntax.specs.Cuts.{Cuts, Fails}

@@ -1,9 +1,8 @@
 -- What is printed for declarations derives them again.
-use Rattle.std.proofs.Common.{◌≡◌, ℕ, Bool, true, false, List, [], ◌∷◌, ◌++◌, map, refl, sym, ap, ap₂, ◌∙◌, subst, append_assoc}
+use Rattle.std.proofs.Common.{◌≡◌, ℕ, true, List, [], ◌∷◌, ◌++◌, map, refl, sym, ap, ap₂, ◌∙◌, subst, append_assoc}
 use Rattle.std.specs.Prelude.{Option, Some, None}
 use Rattle.lus_syntax.specs.declared.token.Token.{Token}
-use Rattle.lus_syntax.specs.declared.token.TokenKind.{TokenKind}
-use Rattle.lus_syntax.specs.declared.token.TokenKind.TheVariants.{Name, Number, Word, Sign}
+use Rattle.lus_syntax.specs.declared.token.TokenKind.TheVariants.{Name, Sign}
 use Rattle.lus_syntax.specs.declared.token.Keyword.TheVariants as word
 use Rattle.lus_syntax.specs.declared.token.Symbol.TheVariants as sign
 use Rattle.lus_syntax.specs.declared.ast.Decl.{Decl}
@@ -14,9 +13,9 @@ use Rattle.lus_syntax.specs.declared.ast.Item.{Item}
 use Rattle.lus_syntax.specs.declared.ast.Item.TheVariants.{Assert, Equation}
 use Rattle.lus_syntax.specs.declared.ast.Spot.{Spot}
 use Rattle.lus_syntax.specs.Operators.{loosest}
-use Rattle.lus_syntax.specs.Words.{kind_of, name_or, word_of}
-use Rattle.lus_syntax.specs.Grammar.{spelling, spot, is_type, DerivesWhole, DerivesNames, last_name, more_names, DerivesClock, no_clock, clock, DerivesGroup, group, DerivesParams, last_params, last_params_ended, more_params, DerivesInputs, no_inputs, inputs, DerivesOutputs, outputs, DerivesLines, last_line, more_lines, DerivesLocals, no_locals, locals, DerivesLeft, bare_left, left_in_parens, DerivesItem, assertion, equation, DerivesItems, no_items, more_items, MayEnd, ended, MayClose, unclosed, DerivesType, untyped, typed, DerivesDecl, type_decl, const_with_value, const_without_value, node_decl, DerivesDecls, no_decls, more_decls}
-use Rattle.lus_syntax.specs.Printing.{unplaced_expr, unplaced_spot, unplaced_spot_of, unplaced_expr_of, unplaced_group, unplaced_item, unplaced_decl}
+use Rattle.lus_syntax.specs.Words.{name_or, word_of}
+use Rattle.lus_syntax.specs.Grammar.{spelling, spot, is_type, DerivesWhole, DerivesNames, last_name, more_names, DerivesClock, no_clock, clock, DerivesGroup, group, DerivesParams, last_params, last_params_ended, more_params, DerivesInputs, no_inputs, inputs, DerivesOutputs, outputs, DerivesLines, last_line, more_lines, DerivesLocals, no_locals, locals, DerivesLeft, bare_left, left_in_parens, DerivesItem, assertion, equation, DerivesItems, no_items, more_items, ended, unclosed, DerivesType, untyped, typed, DerivesDecl, type_decl, const_with_value, const_without_value, node_decl, DerivesDecls, no_decls, more_decls}
+use Rattle.lus_syntax.specs.Printing.{unplaced_expr, unplaced_spot, unplaced_spot_of, unplaced_group, unplaced_item, unplaced_decl}
 use Rattle.lus_syntax.specs.Phrases as spec
 use Rattle.lus_syntax.specs.Phrases.{Lexeme, phrase, keyword, symbol, blank, joined, line, indent, in_parens, type_name}
 use Rattle.lus_syntax.proofs.Spelled.{AreLexemes, all_append, Spells, first, last, parts, IsToken, AreTokens, apart}

@@ -1,6 +1,6 @@
 -- What is printed for an expression derives it again.
-use Rattle.std.proofs.Common.{◌≡◌, ℕ, zero, suc, ◌+◌, ◌-◌, ◌<◌, ◌≤◌, Bool, true, false, cond, nat_le, List, [], ◌∷◌, ◌++◌, length, map, refl, sym, ap, ap₂, ◌∙◌, subst, arith, true≢false}
-use Rattle.std.specs.Prelude.{Option, Some, None, ◌&&◌, ◌||◌, not}
+use Rattle.std.proofs.Common.{◌≡◌, ℕ, zero, suc, ◌+◌, ◌-◌, ◌<◌, ◌≤◌, Bool, true, false, nat_le, List, [], ◌∷◌, ◌++◌, map, refl, sym, ap, ap₂, ◌∙◌, subst, arith, true≢false}
+use Rattle.std.specs.Prelude.{Some, ◌&&◌, ◌||◌, not}
 use Rattle.std.proofs.lemmas.Bool.Decides.{nat_tests}
 use Rattle.lus_syntax.specs.declared.token.Token.{Token}
 use Rattle.lus_syntax.specs.declared.token.TokenKind.{TokenKind}
@@ -16,8 +16,6 @@ use Rattle.lus_syntax.specs.declared.ast.ExprKind.TheVariants as tree
 use Rattle.lus_syntax.specs.declared.ast.ExprKind.TheOpen as level
 use Rattle.lus_syntax.specs.declared.operators.Grouping.{Grouping}
 use Rattle.lus_syntax.specs.declared.operators.Grouping.TheVariants.{ToLeft, ToRight, Alone}
-use Rattle.lus_syntax.specs.declared.operators.Infix.{Infix}
-use Rattle.lus_syntax.specs.declared.operators.Prefix.{Prefix}
 use Rattle.lus_syntax.specs.Operators.{infix_of, prefix_of, loosest, left_of, left_rank, right_of, right_rank}
 use Rattle.lus_syntax.specs.Words.{kind_of}
 use Rattle.lus_syntax.specs.Cuts.{IsNarrow}

@@ -1,5 +1,5 @@
 -- Each token that is printed is a token.
-use Rattle.std.proofs.Common.{◌≡◌, ℕ, ◌+◌, ◌-◌, ◌*◌, ◌<◌, ◌≤◌, ◌/◌, ◌%◌, ◌^◌, Bool, true, false, cond, List, [], ◌∷◌, ◌++◌, length, refl, sym, ap, ◌∙◌, subst, arith, decimal}
+use Rattle.std.proofs.Common.{◌≡◌, ℕ, ◌+◌, ◌-◌, ◌*◌, ◌<◌, ◌≤◌, ◌%◌, ◌^◌, Bool, true, false, cond, List, [], ◌∷◌, ◌++◌, length, refl, sym, ap, ◌∙◌, subst, arith, decimal}
 use Rattle.std.specs.Prelude.{Option, Some, None}
 use Rattle.std.specs.Char.{is_ascii_digit}
 use Rattle.std.proofs.lemmas.Fmt.{decimal_by_steps_wide}
@@ -17,7 +17,7 @@ use Rattle.lus_syntax.specs.declared.token.TokenKind.TheVariants.{Name, Number, 
 use Rattle.lus_syntax.specs.Cuts.{IsNarrow, is_blank}
 use Rattle.lus_syntax.specs.Grammar.{is_type}
 use Rattle.lus_syntax.specs.Words.{is_letter, is_part, every, kind_of, name_or, value_from, word_of, word_text, sign_of, sign_text, signed}
-use Rattle.lus_syntax.specs.Phrases.{Lexeme, joined, blank, line, indent, kind_text, fixed, keyword, symbol, name, type_name, number, one_kind, two_kind, truth_word}
+use Rattle.lus_syntax.specs.Phrases.{joined, blank, line, indent, fixed, keyword, symbol, type_name, number, one_kind, two_kind}
 use Rattle.lus_syntax.proofs.LongestTokens.{kind_name, kind_no_name, kind_digits, kind_no_digits, kind_sign}
 use Rattle.lus_syntax.proofs.Apart.{IsApart, space, line_feed, open_paren, close_paren, comma, colon, semicolon}
 use Rattle.lus_syntax.proofs.Spelled.{IsLexeme}

@@ -1,13 +1,13 @@
 -- Readers of parts that stand one behind another: what is read is read in one way, and where one
 -- part is stuck the whole is.
-use Rattle.std.proofs.Common.{◌≡◌, ℕ, ◌+◌, ◌<◌, ◌≤◌, List, [], ◌∷◌, ◌++◌, length, refl, sym, ap, ◌∙◌, subst, arith, append_assoc, length-append, rules}
+use Rattle.std.proofs.Common.{◌≡◌, ℕ, ◌<◌, List, [], ◌∷◌, ◌++◌, length, refl, sym, ap, ◌∙◌, subst, arith, append_assoc, length-append}
 use Rattle.std.proofs.lemmas.List.{append-nil}
 use Rattle.std.specs.Prelude.{Result, Ok, Err, IfOk, IfErr}
 use Rattle.std.specs.Borrow.{Bor}
 use Rattle.lus_syntax.specs.declared.token.Token.{Token}
 use Rattle.lus_syntax.specs.declared.token.TokenKind.{TokenKind}
-use Rattle.lus_syntax.specs.declared.fault.PartFault.{PartFault}
-use Rattle.lus_syntax.specs.declared.fault.PartFault.TheVariants.{Stuck, Memory}
+use Rattle.lus_syntax.specs.declared.grammar.fault.PartFault.{PartFault}
+use Rattle.lus_syntax.specs.declared.grammar.fault.PartFault.TheVariants.{Stuck, Memory}
 use Rattle.lus_syntax.specs.Parts.{Lacks, Alike, Takes, IsStuck, Parsed}
 use Rattle.lus_syntax.specs.Sections.{Anything, OneToken, Nothing, Sequence, Either, one, other, Many, none, more, Run, started, taken, Begun, IsToken}
 

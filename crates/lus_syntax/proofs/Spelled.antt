@@ -1,6 +1,6 @@
 -- The tokens of a printed text are those that were printed.
-use Rattle.std.proofs.Common.{◌≡◌, ◌⊎◌, inl, inr, ℕ, zero, suc, ◌+◌, ◌-◌, ◌<◌, ◌≤◌, Bool, true, false, List, [], ◌∷◌, ◌++◌, length, take, drop, get_or, refl, sym, ap, ◌∙◌, subst, arith, append_assoc, length-append, length-drop}
-use Rattle.std.specs.Prelude.{Option, Some, None, ◌==◌, ◌&&◌, ◌||◌, not, if◌then◌else◌, slice_index}
+use Rattle.std.proofs.Common.{◌≡◌, inl, inr, ℕ, ◌+◌, ◌-◌, ◌<◌, ◌≤◌, Bool, true, false, List, [], ◌∷◌, ◌++◌, length, take, drop, get_or, refl, sym, ap, ◌∙◌, subst, arith, append_assoc, length-append, length-drop}
+use Rattle.std.specs.Prelude.{Some, ◌==◌, ◌&&◌, not, if◌then◌else◌, slice_index}
 use Rattle.std.proofs.lemmas.List.{drop-drop}
 use Rattle.std.proofs.Math.Seq.{take-append_seam, drop-append_seam, get_or-append_right}
 use Rattle.lus_syntax.specs.declared.token.Token.{Token}
@@ -8,8 +8,8 @@ use Rattle.lus_syntax.specs.declared.token.TokenKind.{TokenKind}
 use Rattle.lus_syntax.specs.Words.{kind_of, every}
 use Rattle.lus_syntax.specs.Cuts.{IsNarrow, IsLongest, IsDense, Skips, blank, Cuts, nothing, skip, token, is_blank}
 use Rattle.lus_syntax.specs.Grammar.{spelling}
-use Rattle.lus_syntax.specs.Phrases.{Lexeme, Extends, write_one, written, gap, is_tight, line}
-use Rattle.lus_syntax.proofs.Apart.{EndsToken, line_feed, IsApart, NoStar, Follows, cut_here, paren_last, some_length}
+use Rattle.lus_syntax.specs.Phrases.{Lexeme, write_one, written, gap, is_tight, line}
+use Rattle.lus_syntax.proofs.Apart.{line_feed, IsApart, NoStar, Follows, cut_here, paren_last, some_length}
 
 -- a token that can be printed
 pub record IsLexeme (x : Lexeme) : Type 0 where

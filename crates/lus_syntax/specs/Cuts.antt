@@ -1,7 +1,7 @@
 -- How a text is cut into tokens, blanks and comments, and why it can't be.
 use Rattle.std.specs.Prelude.{◌≡◌, ◌≢◌, ℕ, ◌+◌, ◌<◌, ◌≤◌, ◌^◌, Bool, true, false, ◌&&◌, ◌||◌, ◌==◌, List, [], ◌∷◌, length, take, drop, slice_index, Some, None}
-use Rattle.lus_syntax.specs.declared.lexer.LexFault.{LexFault}
-use Rattle.lus_syntax.specs.declared.lexer.LexFault.TheVariants.{BadByte, OpenComment, WideLiteral, Memory}
+use Rattle.lus_syntax.specs.declared.tokens.lexer.LexFault.{LexFault}
+use Rattle.lus_syntax.specs.declared.tokens.lexer.LexFault.TheVariants.{BadByte, OpenComment, WideLiteral, Memory}
 use Rattle.lus_syntax.specs.declared.token.Token.{Token}
 use Rattle.lus_syntax.specs.declared.token.TokenKind.{TokenKind}
 use Rattle.lus_syntax.specs.declared.token.TokenKind.TheVariants.{Name, Number, Word, Sign}

@@ -1,8 +1,8 @@
 -- Where a list of tokens stops being the front of a program.
 use Rattle.std.specs.Prelude.{◌≡◌, ℕ, ◌≤◌, ◌<◌, suc, List, ◌++◌, length, take}
 use Rattle.lus_syntax.specs.declared.ast.Ast.{Ast}
-use Rattle.lus_syntax.specs.declared.fault.SyntaxFault.{SyntaxFault}
-use Rattle.lus_syntax.specs.declared.fault.SyntaxFault.TheVariants as fault
+use Rattle.lus_syntax.specs.declared.grammar.fault.SyntaxFault.{SyntaxFault}
+use Rattle.lus_syntax.specs.declared.grammar.fault.SyntaxFault.TheVariants as fault
 use Rattle.lus_syntax.specs.declared.token.Token.{Token}
 use Rattle.lus_syntax.specs.Grammar.{Derives}
 

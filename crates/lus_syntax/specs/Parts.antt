@@ -6,8 +6,8 @@ use Rattle.lus_syntax.specs.declared.token.Token.{Token}
 use Rattle.lus_syntax.specs.declared.token.TokenKind.{TokenKind}
 use Rattle.lus_syntax.specs.declared.token.TokenKind.TheVariants.{Sign}
 use Rattle.lus_syntax.specs.declared.token.Symbol.TheVariants as sign
-use Rattle.lus_syntax.specs.declared.fault.PartFault.{PartFault}
-use Rattle.lus_syntax.specs.declared.fault.PartFault.TheVariants.{Stuck, Memory}
+use Rattle.lus_syntax.specs.declared.grammar.fault.PartFault.{PartFault}
+use Rattle.lus_syntax.specs.declared.grammar.fault.PartFault.TheVariants.{Stuck, Memory}
 use Rattle.lus_syntax.specs.Operators.{infix_of}
 use Rattle.std.specs.Prelude.{None}
 

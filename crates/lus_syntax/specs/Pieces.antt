@@ -1,11 +1,11 @@
 -- What the lexer says of the piece that begins a text.
 use Rattle.std.specs.Prelude.{ℕ, List, Result, Ok, Err}
-use Rattle.lus_syntax.specs.declared.lexer.LexFault.{LexFault}
-use Rattle.lus_syntax.specs.declared.lexer.LexFault.TheVariants as fault
-use Rattle.lus_syntax.specs.declared.pieces.Cause.{Cause}
-use Rattle.lus_syntax.specs.declared.pieces.Cause.TheVariants.{BadByte, OpenComment, WideLiteral}
-use Rattle.lus_syntax.specs.declared.pieces.Piece.{Piece}
-use Rattle.lus_syntax.specs.declared.pieces.Piece.TheVariants.{Gap, Token}
+use Rattle.lus_syntax.specs.declared.tokens.lexer.LexFault.{LexFault}
+use Rattle.lus_syntax.specs.declared.tokens.lexer.LexFault.TheVariants as fault
+use Rattle.lus_syntax.specs.declared.tokens.pieces.Cause.{Cause}
+use Rattle.lus_syntax.specs.declared.tokens.pieces.Cause.TheVariants.{BadByte, OpenComment, WideLiteral}
+use Rattle.lus_syntax.specs.declared.tokens.pieces.Piece.{Piece}
+use Rattle.lus_syntax.specs.declared.tokens.pieces.Piece.TheVariants.{Gap, Token}
 use Rattle.lus_syntax.specs.Cuts.{Skips, IsDense, IsLongest, IsNarrow, IsBadByte, IsOpenComment, IsWideLiteral}
 
 -- why no piece begins here

@@ -7,7 +7,7 @@
 --
 -- An expression of a rank is one of the rank below, or an operator of that rank with its operands;
 -- an atom is NAME, `true`, `false` or an expression in parentheses.
-use Rattle.std.specs.Prelude.{◌≡◌, ℕ, suc, ◌-◌, true, false, List, [], ◌∷◌, ◌++◌, length, take, drop, Some, None}
+use Rattle.std.specs.Prelude.{◌≡◌, ℕ, suc, true, false, List, [], ◌∷◌, ◌++◌, length, Some, None}
 use Rattle.lus_syntax.specs.declared.token.Token.{Token}
 use Rattle.lus_syntax.specs.declared.token.TokenKind.TheVariants.{Name, Word, Sign}
 use Rattle.lus_syntax.specs.declared.token.Keyword.TheVariants as word
@@ -15,8 +15,7 @@ use Rattle.lus_syntax.specs.declared.token.Symbol.TheVariants as sign
 use Rattle.lus_syntax.specs.declared.ast.Ast.{Ast}
 use Rattle.lus_syntax.specs.declared.ast.Decl.{Decl}
 use Rattle.lus_syntax.specs.declared.ast.Decl.TheVariants.{NodeDecl}
-use Rattle.lus_syntax.specs.declared.ast.Expr.{Expr, roll-Expr}
-use Rattle.lus_syntax.specs.declared.ast.ExprKind.{ExprKind}
+use Rattle.lus_syntax.specs.declared.ast.Expr.{Expr}
 use Rattle.lus_syntax.specs.declared.ast.ExprKind.TheVariants as tree
 use Rattle.lus_syntax.specs.declared.ast.Group.{Group}
 use Rattle.lus_syntax.specs.declared.ast.Item.{Item}

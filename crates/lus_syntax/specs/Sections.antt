@@ -10,11 +10,10 @@ use Rattle.lus_syntax.specs.declared.ast.Decl.{Decl}
 use Rattle.lus_syntax.specs.declared.ast.Decl.TheVariants.{TypeDecl, ConstDecl, NodeDecl}
 use Rattle.lus_syntax.specs.declared.ast.Expr.{Expr}
 use Rattle.lus_syntax.specs.declared.ast.Group.{Group}
-use Rattle.lus_syntax.specs.declared.ast.Item.{Item}
 use Rattle.lus_syntax.specs.declared.ast.Spot.{Spot}
-use Rattle.lus_syntax.specs.declared.declarations.Body.{Body}
-use Rattle.lus_syntax.specs.declared.declarations.Constant.{Constant}
-use Rattle.lus_syntax.specs.declared.declarations.Heading.{Heading}
+use Rattle.lus_syntax.specs.declared.grammar.declarations.Body.{Body}
+use Rattle.lus_syntax.specs.declared.grammar.declarations.Constant.{Constant}
+use Rattle.lus_syntax.specs.declared.grammar.declarations.Heading.{Heading}
 use Rattle.lus_syntax.specs.Grammar.{spot, is_type, DerivesWhole, DerivesNames, DerivesGroup, DerivesParams, DerivesLocals, DerivesInputs, DerivesOutputs, DerivesLeft, DerivesItems}
 use Rattle.lus_syntax.specs.Parts.{Lacks, Takes}
 

@@ -2,33 +2,23 @@
 #![tactic(auto)]
 
 mod ast;
-mod builders;
-mod crowding;
-mod declarations;
-mod expressions;
-mod fault;
-mod front;
-mod groups;
-mod items;
-mod lexer;
+mod grammar;
 mod limits;
 mod operators;
-mod parser;
-mod pieces;
 mod plain;
 mod printing;
-mod spellings;
 #[cfg(test)]
 mod test_helpers;
 mod token;
+mod tokens;
 
 pub use ast::{Ast, BinOp, Decl, Expr, ExprKind, Group, Item, Spot, UnOp};
-pub use crowding::crowded;
-pub use fault::SyntaxFault;
-pub use lexer::{LexFault, lex, one_cutting};
+pub use grammar::fault::SyntaxFault;
+pub use grammar::parser::{one_tree, parse};
 pub use limits::{MOST_BYTES, MOST_COUNTED};
 pub use operators::{Grouping, Infix, Prefix};
-pub use parser::{one_tree, parse};
 pub use plain::{Binary, PlainFault, Unary, one_plain_tree, read_plain};
 pub use printing::print;
 pub use token::{Keyword, Symbol, Token, TokenKind};
+pub use tokens::crowding::crowded;
+pub use tokens::lexer::{LexFault, lex, one_cutting};

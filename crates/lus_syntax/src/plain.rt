@@ -12,10 +12,10 @@ mod front;
 mod operators;
 
 use crate::ast::Ast;
-use crate::crowding::crowded;
-use crate::lexer::{LexFault, lex};
 use crate::limits::MOST_BYTES;
 use crate::token::Token;
+use crate::tokens::crowding::crowded;
+use crate::tokens::lexer::{LexFault, lex};
 use cov_base::List;
 use declarations::{only, read_node};
 pub use fault::PlainFault;

@@ -1,9 +1,30 @@
-//! What tests of several modules use: trees as bytes without their places, and nested texts.
+//! What tests of several modules use: trees as bytes without their places, nested texts, and a
+//! program of five declarations.
 
 use crate::ast::{Ast, BinOp, Decl, Expr, ExprKind, Group, Item, Spot, UnOp};
 use cov_base::{List, Memory};
 use itoa::Buffer;
 use std::alloc::Global;
+
+/// The alarm controller: a type, a constant and three nodes that call each other.
+pub(crate) const ALARM: &[u8] = b"type mode = enum { Idle, Armed, Ring };
+const LIMIT = 2;
+node rise(x: bool) returns (y: bool);
+let y = false -> x and not pre x; tel
+node count(up, reset: bool) returns (n: int);
+var p: int;
+let p = 0 -> pre n;
+  n = if reset then 0 else if up and p < LIMIT then p + 1 else p; tel
+node alarm(arm, sensor, clear: bool) returns (siren: bool; m: mode);
+var n: int; last: mode; hit: bool;
+let assert not (arm and clear);
+  hit = rise(sensor);
+  last = Idle -> pre m;
+  n = count(hit and last = Armed, clear);
+  m = if clear then Idle else if last = Idle and arm then Armed
+      else if last = Armed and n >= LIMIT then Ring else last;
+  siren = m = Ring; tel
+";
 
 fn before(op: UnOp) -> &'static [u8] {
     match op {

@@ -100,12 +100,20 @@ node_declared g (Some (TypeDecl at name choices)) = None
 node_declared g (Some (ConstDecl at name ty value)) = None
 node_declared g None = None
 
+abbrev pub place_meant : Option Meaning → Option ℕ
+place_meant (Some (means.Node place)) = Some place
+place_meant (Some (means.Enumerator ty i)) = None
+place_meant (Some (means.Constant place)) = None
+place_meant (Some (means.Enumeration ty)) = None
+place_meant None = None
+
+-- The node of the declaration at a place.
+abbrev pub node_at_place : Globals → List Decl → Option ℕ → Option Node
+node_at_place g decls None = None
+node_at_place g decls (Some place) = node_declared g (slice_get decls place)
+
 abbrev pub node_meant : Globals → List Decl → Option Meaning → Option Node
-node_meant g decls (Some (means.Node place)) = node_declared g (slice_get decls place)
-node_meant g decls (Some (means.Enumerator ty i)) = None
-node_meant g decls (Some (means.Constant place)) = None
-node_meant g decls (Some (means.Enumeration ty)) = None
-node_meant g decls None = None
+node_meant g decls m = node_at_place g decls (place_meant m)
 
 abbrev pub program_of : List Decl → ℕ → Program
 program_of decls width =
@@ -131,10 +139,3 @@ constant_with (Some ty) v = Some (record { ty = ty; value = v })
 -- the constant or enumerator that a name means, with its type and its value
 abbrev pub constant_named : Program → Name → Option Constant
 constant_named program x = constant_with (program.constant x) (program.value x)
-
-abbrev pub place_meant : Option Meaning → Option ℕ
-place_meant (Some (means.Node place)) = Some place
-place_meant (Some (means.Enumerator ty i)) = None
-place_meant (Some (means.Constant place)) = None
-place_meant (Some (means.Enumeration ty)) = None
-place_meant None = None

@@ -9,3 +9,15 @@ pub mod Instances
 pub mod Network
 pub mod Nesting
 pub mod Law
+pub mod Ports
+pub mod Drafts
+pub mod Expanding
+pub mod Headers
+pub mod Known
+pub mod Making
+pub mod NameTables
+pub mod NodePlaces
+pub mod Outlines
+pub mod Roots
+pub mod Small
+pub mod Variables

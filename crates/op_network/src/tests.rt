@@ -166,14 +166,22 @@ fn other_ports_have_no_condition(rt: HostRuntime) {
     }
 }
 
-/// The value of each operator that the tables above leave out, at instant 0 and later.
+/// An operator's values at instant 0 and at a later one, over three edges and one input.
+fn instant_values(rt: &impl Abort, op: Op, ty: Ty, first: Value, later: Value) {
+    let before = [Value::Truth(true), Value::Word(3), Value::Choice(4)];
+    let now = [Value::Truth(false), Value::Word(-6), Value::Choice(5)];
+    let inputs = [Value::Word(7)];
+    let at_first = operator_value(4, op, ty, None, &now, &inputs);
+    assert_eq!(rt; at_first, first);
+    let at_later = operator_value(4, op, ty, Some(&before), &now, &inputs);
+    assert_eq!(rt; at_later, later);
+}
+
+/// The value of each operator that the tables above leave out and that has the same one at instant 0 and later.
 #[test]
 fn an_operator_reads_its_instant(rt: HostRuntime) {
     let yes = Value::Truth(true);
     let no = Value::Truth(false);
-    let before = [yes, Value::Word(3), Value::Choice(4)];
-    let now = [no, Value::Word(-6), Value::Choice(5)];
-    let inputs = [Value::Word(7)];
     for (op, ty, first, later) in [
         (Op::Input(0), Ty::Word, Value::Word(7), Value::Word(7)),
         (
@@ -194,6 +202,17 @@ fn an_operator_reads_its_instant(rt: HostRuntime) {
             Value::Choice(5),
             Value::Choice(5),
         ),
+    ] {
+        instant_values(&rt, op, ty, first, later);
+    }
+}
+
+/// The value of each operator that has another one at instant 0 than later.
+#[test]
+fn an_operator_knows_instant_0(rt: HostRuntime) {
+    let yes = Value::Truth(true);
+    let no = Value::Truth(false);
+    for (op, ty, first, later) in [
         (Op::Arrow(B, C), Ty::Word, Value::Word(-6), Value::Choice(5)),
         (Op::Pre(A), Ty::Truth, no, yes),
         (Op::Pre(B), Ty::Word, Value::Word(0), Value::Word(3)),
@@ -204,11 +223,15 @@ fn an_operator_reads_its_instant(rt: HostRuntime) {
             Value::Choice(4),
         ),
     ] {
-        let at_first = operator_value(4, op, ty, None, &now, &inputs);
-        assert_eq!(rt; at_first, first);
-        let at_later = operator_value(4, op, ty, Some(&before), &now, &inputs);
-        assert_eq!(rt; at_later, later);
+        instant_values(&rt, op, ty, first, later);
     }
+}
+
+/// A value of each kind of operator that the tables above leave out.
+#[test]
+fn an_operator_reads_its_values(rt: HostRuntime) {
+    let yes = Value::Truth(true);
+    let no = Value::Truth(false);
     assert_eq!(rt; unary_value(4, Unary::Not, yes), no);
     assert_eq!(rt;
         if_value(yes, Value::Word(1), Value::Word(2)),

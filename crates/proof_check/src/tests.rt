@@ -34,6 +34,11 @@ fn proofs_are_read_and_written(rt: HostRuntime) -> Result<(), Fail> {
             "1 2000000 0 -4294967295 0\n",
         ),
         ("1 -0 00", "1 0 0\n"),
+        (
+            "9 1 0 2 0\n5 -1 0 3 0\n5 0 9 5 0",
+            "9 1 0 2 0\n5 -1 0 3 0\n5 0 9 5 0\n",
+        ),
+        ("3 1 0 1 0\n1 d 3 0\n2 0 0", "3 1 0 1 0\n1 d 3 0\n2 0 0\n"),
     ] {
         let proof = read(&rt, rt.alloc(), text)?;
         let mut out = List::new(rt.alloc());
@@ -128,6 +133,13 @@ fn the_first_refused_step_is_named(rt: HostRuntime) -> Result<(), Fail> {
         (SQUARE, "5 1 0 0\n", 1, StepKind::NotClosed),
         (SQUARE, "4 1 0 1 2 0\n", 1, StepKind::OldId),
         (SQUARE, "5 1 0 1 2 0\n5 0 5 3 4 0\n", 2, StepKind::OldId),
+        (SQUARE, "7 1 0 1 2 0\n6 0 7 3 4 0\n", 2, StepKind::OldId),
+        (
+            SQUARE,
+            "5 1 0 1 2 0\n1 d 5 0\n5 1 0 1 2 0\n",
+            3,
+            StepKind::OldId,
+        ),
         (SQUARE, "5 1 0 -1 2 0\n", 1, StepKind::RatHint),
         (SQUARE, "5 1 0 1 -9 0\n", 1, StepKind::RatHint),
         (SQUARE, "5 1 0 9 2 0\n", 1, StepKind::UnknownId),

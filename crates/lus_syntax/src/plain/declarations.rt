@@ -2,7 +2,7 @@ ghost use Rattle.std.specs.Prelude.{◌≡◌, ◌≤◌, [], ◌∷◌, ◌++�
 ghost use Rattle.lus_syntax.specs.PlainReading.{Takes, ReadsNames, ReadsGroup, ReadsEnclosed, ReadsLocals, ReadsRight, ReadsItem, NoName, Many, ReadsHeading, ReadsBody, ReadsNode};
 
 use crate::ast::{Decl, Group, Item, Spot};
-use crate::builders::spot_of;
+use crate::grammar::builders::spot_of;
 use crate::plain::expressions::{LOOSEST, ranked};
 use crate::plain::fault::PlainFault;
 use crate::plain::front::{accept, expect};

@@ -2,8 +2,8 @@ ghost use Rattle.std.specs.Prelude.{◌≡◌, ◌<◌, suc, length, IfOk};
 ghost use Rattle.lus_syntax.specs.PlainReading.{Parsed, At, NoUnary, NoAtom};
 
 use crate::ast::Expr;
-use crate::builders::{one_of, two_of};
-use crate::front::head;
+use crate::grammar::builders::{one_of, two_of};
+use crate::grammar::front::head;
 use crate::plain::fault::PlainFault;
 use crate::plain::front::{atom_of, binary_in_front, expect, unary_in_front};
 use crate::plain::operators::populated;

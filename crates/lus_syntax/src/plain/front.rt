@@ -3,8 +3,8 @@ ghost use Rattle.lus_syntax.specs.PlainOperators.{binary, IsUnary};
 ghost use Rattle.lus_syntax.specs.PlainReading.{atom, Lacks, NoUnary, NoBinary};
 
 use crate::ast::{Expr, ExprKind, UnOp};
-use crate::builders::{leaf, spelled};
-use crate::front::head;
+use crate::grammar::builders::{leaf, spelled};
+use crate::grammar::front::head;
 use crate::plain::fault::PlainFault;
 use crate::plain::operators::{Binary, binary_of, unary_of};
 use crate::token::{Keyword, Token, TokenKind};

@@ -1,13 +1,13 @@
 use super::*;
 use crate::ast::{BinOp, Expr, ExprKind, UnOp};
-use crate::builders::{leaf, one_of, two_of};
-use crate::crowding::crowded;
-use crate::lexer::lex;
+use crate::grammar::builders::{leaf, one_of, two_of};
+use crate::grammar::parser::parse;
 use crate::limits::MOST_BYTES;
-use crate::parser::parse;
 use crate::plain::read_plain;
 use crate::printing::expressions::put_expr;
-use crate::test_helpers::{nest, outline};
+use crate::test_helpers::{ALARM, nest, outline};
+use crate::tokens::crowding::crowded;
+use crate::tokens::lexer::lex;
 use cov_base::Text;
 use sqlite_items::{Boxed, Items};
 use std::alloc::Global;
@@ -185,25 +185,6 @@ const EDGE_PRINTED: &[u8] = b"node edge(x: bool) returns (y: bool);
 let
   y = false -> x and not pre x;
 tel
-";
-
-const ALARM: &[u8] = b"type mode = enum { Idle, Armed, Ring };
-const LIMIT = 2;
-node rise(x: bool) returns (y: bool);
-let y = false -> x and not pre x; tel
-node count(up, reset: bool) returns (n: int);
-var p: int;
-let p = 0 -> pre n;
-  n = if reset then 0 else if up and p < LIMIT then p + 1 else p; tel
-node alarm(arm, sensor, clear: bool) returns (siren: bool; m: mode);
-var n: int; last: mode; hit: bool;
-let assert not (arm and clear);
-  hit = rise(sensor);
-  last = Idle -> pre m;
-  n = count(hit and last = Armed, clear);
-  m = if clear then Idle else if last = Idle and arm then Armed
-      else if last = Armed and n >= LIMIT then Ring else last;
-  siren = m = Ring; tel
 ";
 
 const ALARM_PRINTED: &[u8] = b"type mode = enum { Idle, Armed, Ring };

@@ -1,8 +1,8 @@
 ghost use Rattle.std.specs.Prelude.{◌≡◌, ◌==◌, [], ◌∷◌, slice_index, OnOk, OnErr};
 ghost use Rattle.lus_syntax.specs.Phrases.{Extends, blank, fixed, gap, is_tight, keyword, name, number, symbol, type_name, write_one, written};
 
-use crate::spellings::{sign_text, word_text};
 use crate::token::{Keyword, Symbol, TokenKind};
+use crate::tokens::spellings::{sign_text, word_text};
 use cov_base::{List, Memory};
 use itoa::Buffer;
 

@@ -185,8 +185,8 @@ fn node_call_kind(
     callee: u32,
     args: &[Option<Ty>],
 ) -> Option<TypeKind>
-    ensures { result ≡ check.node_call_kind (recursions scope.now.cycles.now) (scope_seen scope.now) position
-        callee args.now }
+    ensures { result ≡ check.node_call_kind (recursions scope.now.cycles.now)
+        (scope_seen scope.now) position callee args.now }
 {
     let first = match signature_at(scope, callee) {
         Some(signature) => signature_kind(position, args, signature),

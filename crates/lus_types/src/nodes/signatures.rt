@@ -96,8 +96,8 @@ fn node_signature(
     inputs: &[Group],
     outputs: &[Group],
 ) -> Result<Signature, TypeFault>
-    ensures ok { IfOk result (λ s. s ≡ spec.node_signature (globals_seen globals.now) items.now inputs.now
-        outputs.now) }
+    ensures ok { IfOk result (λ s. s ≡ spec.node_signature (globals_seen globals.now) items.now
+        inputs.now outputs.now) }
     ensures err { IfErr result (λ fault. fault ≡ TypeFault.Memory) }
 {
     let defined = defined_in(alloc, items)?;

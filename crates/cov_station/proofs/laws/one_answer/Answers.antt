@@ -1,15 +1,11 @@
-use Rattle.cov_station.proofs.Endings.{one_program, refuses_once}
-use Rattle.cov_station.proofs.OneAnswer.{one_suite, one_answer}
+use Rattle.std.specs.Prelude.{Some}
+use Rattle.cov_station.specs.Commands.{station}
+use Rattle.cov_station.proofs.Determined as determined
+use Rattle.cov_station.proofs.OneStation.{station_once}
 use Rattle.cov_station.proofs.laws.one_answer.Goals as goal
 
-pub returns-clause-program : goal.returns-clause-program
-returns-clause-program c source node other p q = one_program source node other p q
+pub returns-clause-answer : goal.returns-clause-answer
+returns-clause-answer c words told a b h t = determined.one_answer (station words (Some told)) (station_once words told) a b h t
 
-pub returns-clause-suite : goal.returns-clause-suite
-returns-clause-suite c inputs bytes tests others p q = one_suite inputs bytes tests others p q
-
-pub returns-clause-text : goal.returns-clause-text
-returns-clause-text c words told text other p q = one_answer words told text other p q
-
-pub returns-clause-refusal : goal.returns-clause-refusal
-returns-clause-refusal c words told status other line another f g = refuses_once f g
+pub returns-clause-ready : goal.returns-clause-ready
+returns-clause-ready c words told why r h = determined.ready_apart (station words (Some told)) why (station_once words told) r h

@@ -1,29 +1,19 @@
-use Rattle.cov_station.proofs.Endings.{done_of, done_counts_of, refused_of, refused_counts_of, read_fault_of, write_fault_of, memory_of, due_of, done_due_of}
+use Rattle.std.proofs.Common.{◌∙◌, map}
+use Rattle.std.specs.Prelude.{string_bytes}
+use Rattle.cov_station.specs.Commands.{station}
+use Rattle.cov_station.proofs.Endings.{done_ends, refused_ends, due_of}
+use Rattle.cov_station.proofs.OneStation.{station_once}
 use Rattle.cov_station.proofs.top.station.Goals as goal
 
-pub returns-clause-done : goal.returns-clause-done
-returns-clause-done g c = λ h. done_of c.answer.ensures.outcome h
+pub returns-in-Ok-clause-ends : goal.returns-in-Ok-clause-ends
+returns-in-Ok-clause-ends g c = done_ends _ _ c.in-Ok.ensures.answer c.in-Ok.ensures.counts c.as_slice.ensures c.finish.ensures.put
 
-pub returns-clause-done_counts : goal.returns-clause-done_counts
-returns-clause-done_counts g c = λ h. done_counts_of c.answer.ensures.outcome h
+pub returns-in-Ok-clause-due : goal.returns-in-Ok-clause-due
+returns-in-Ok-clause-due g c = due_of (station (map string_bytes c.args.args.now)) _ (station_once _) (returns-in-Ok-clause-ends g c)
 
-pub returns-clause-refused : goal.returns-clause-refused
-returns-clause-refused g c = λ h. refused_of c.answer.ensures.outcome h
+pub returns-in-Ok-line-clause-ends : goal.returns-in-Ok-line-clause-ends
+returns-in-Ok-line-clause-ends g c =
+    refused_ends _ _ c.in-Err.ensures.answer c.in-Err.ensures.counts c.in-Ok-line.ensures.some (c.as_slice-in-Ok-line.ensures ∙ c.in-Ok-line.ensures.line) c.status.ensures c.finish-in-Ok-line.ensures.put
 
-pub returns-clause-refused_counts : goal.returns-clause-refused_counts
-returns-clause-refused_counts g c = λ h. refused_counts_of c.answer.ensures.outcome h
-
-pub returns-clause-read_fault : goal.returns-clause-read_fault
-returns-clause-read_fault g c = λ h. read_fault_of c.answer.ensures.outcome h
-
-pub returns-clause-write_fault : goal.returns-clause-write_fault
-returns-clause-write_fault g c = λ h. write_fault_of c.answer.ensures.outcome h
-
-pub returns-clause-memory : goal.returns-clause-memory
-returns-clause-memory g c = λ h. memory_of c.answer.ensures.outcome h
-
-pub returns-clause-refusal_due : goal.returns-clause-refusal_due
-returns-clause-refusal_due g c = due_of _ c.answer.ensures.outcome
-
-pub returns-clause-done_due : goal.returns-clause-done_due
-returns-clause-done_due g c = done_due_of _ c.answer.ensures.outcome
+pub returns-in-Ok-line-clause-due : goal.returns-in-Ok-line-clause-due
+returns-in-Ok-line-clause-due g c = due_of (station (map string_bytes c.args.args.now)) _ (station_once _) (returns-in-Ok-line-clause-ends g c)

@@ -1,6 +1,6 @@
-use Rattle.std.proofs.Common.{◌≡◌, true, map, rules, refl, ap, ◌∙◌, sym, subst, arith}
+use Rattle.std.proofs.Common.{true, map, refl, arith}
 use Rattle.std.proofs.lemmas.Result.{on_ok_weaker}
-use Rattle.lus_syntax.specs.Phrases.{Extends, argument, arguments, phrase}
+use Rattle.lus_syntax.specs.Phrases.{argument, arguments, phrase}
 use Rattle.lus_syntax.proofs.Writing.{step, grows}
 use Rattle.lus_syntax.proofs.Operands.{put_two, put_cond, put_call}
 use Rattle.lus_syntax.proofs.printing.expressions.+put_expr.Goals as goal

@@ -1,4 +1,3 @@
-use Rattle.std.proofs.Common.{refl}
 use Rattle.lus_syntax.proofs.PrintedTexts.{empty_tree}
 use Rattle.lus_syntax.proofs.printing.tests.a_program_without_declarations_is_a_line.Goals as goal
 

@@ -1,0 +1,8 @@
+use Rattle.std.proofs.Common.{◌≡◌, ◌++◌, OnOk, subst, sym, ap, ◌∙◌, codes}
+use Rattle.cov_station.specs.Refusals.{message_of}
+use Rattle.cov_station.proofs.refusal.Refusal.push_message.Goals as goal
+
+pub returns-in-CannotRead-clause-line : goal.returns-in-CannotRead-clause-line
+returns-in-CannotRead-clause-line c =
+    let e : codes "cannot read " ++ c.bytes-in-CannotRead.result.now ≡ message_of c.args.self.now = ap (λ name. codes "cannot read " ++ name) c.bytes-in-CannotRead.ensures ∙ sym (ap message_of c.in-CannotRead.is) in
+    subst (λ message. OnOk c.push_name-in-CannotRead.result (c.push_name-in-CannotRead.new.line ≡ c.args.line.now ++ message)) e c.push_name-in-CannotRead.ensures

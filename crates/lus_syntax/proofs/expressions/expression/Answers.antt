@@ -1,5 +1,0 @@
-use Rattle.lus_syntax.proofs.OneExpression.{parsed}
-use Rattle.lus_syntax.proofs.expressions.expression.Goals as goal
-
-pub returns-clause-parsed : goal.returns-clause-parsed
-returns-clause-parsed c = parsed c.args.text.now c.args.tokens.now c.ranked.result c.ranked.ensures.parsed

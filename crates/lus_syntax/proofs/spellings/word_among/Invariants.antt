@@ -1,6 +1,0 @@
-use Rattle.std.proofs.Common.{◌≡◌, drop}
-use Rattle.lus_syntax.specs.Words.{word_among}
-use Rattle.lus_syntax.proofs.spellings.word_among.Given as goal
-
-abbrev pub invariant-loop-word : goal.invariant-loop-word
-invariant-loop-word l = word_among (drop l.word-index l.words) l.bytes ≡ word_among l.words l.bytes
