@@ -1,0 +1,39 @@
+#!/bin/sh
+# Runs the built program on real files, and compares what it prints and how it ends with what the definitions say. Run
+# by hand in the repository's top folder; it isn't part of the gate.
+cd crates/lustrocov || exit 1
+rt run -- run data/e.lus data/a.csv >/dev/null 2>&1 || exit 1
+program=$(pwd)/out/lustrocov
+data=$(pwd)/data
+work=$(mktemp -d)
+trap 'rm -rf "$work"' EXIT
+cp "$data"/* "$work" && cd "$work" && mkdir folder && printf 'node' >cut.lus && printf 'test,x\na,2\n' >bad.csv || exit 1
+wrong=0
+
+# expect STATUS TEXT WORDS..
+expect() {
+    status=$1
+    text=$2
+    shift 2
+    found=$("$program" "$@")
+    ended=$?
+    if [ "$ended" -ne "$status" ] || [ "$found" != "$text" ]; then
+        echo "lustrocov $*: ended with $ended and printed:"
+        echo "$found"
+        wrong=1
+    fi
+}
+
+expect 0 "$(printf 'test a\nx 0 1 1\ny 0 1 0')" run e.lus a.csv
+expect 0 "$(printf 'test a 3 3\nBC 2/2 100.0%%')" score e.lus a.csv --length 5
+expect 0 "$(printf 'test a 3 3\nBC 1/1 100.0%%')" score --length=3 e.lus a.csv
+expect 0 "$(printf 'test day 6 6\nBC 3/3 100.0%%')" score alarm.lus day.csv --length 4 --main alarm --width 32
+expect 1 'lustrocov: usage'
+expect 1 'lustrocov: usage' score e.lus a.csv --length 65
+expect 2 'lustrocov: no file none.csv' run e.lus none.csv
+expect 3 'lustrocov: cannot read folder' run folder a.csv
+expect 4 'lustrocov: syntax at byte 4' run cut.lus a.csv
+expect 4 'lustrocov: literal out of range at byte 54' run alarm.lus day.csv --width 2 --main rise
+expect 6 'lustrocov: suite record 1: bad value' score e.lus bad.csv
+[ "$wrong" -eq 0 ] && echo "all as they should be"
+exit "$wrong"
