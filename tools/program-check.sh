@@ -8,6 +8,8 @@ data=$(pwd)/data
 work=$(mktemp -d)
 trap 'rm -rf "$work"' EXIT
 cp "$data"/* "$work" && cd "$work" && mkdir folder && printf 'node' >cut.lus && printf 'test,x\na,2\n' >bad.csv || exit 1
+printf 'p cnf 2 4\n1 2 0\n1 -2 0\n-1 2 0\n-1 -2 0\n' >q.cnf && printf '5 1 0 1 2 0\n6 0 5 3 4 0\n' >q.lrat || exit 1
+printf '5 1 0 1 2 0\n6 0 5 3\n' >cut.lrat && printf '5 1 0 1 2 0\n6 0 3 5 4 0\n' >turned.lrat || exit 1
 wrong=0
 
 # expect STATUS TEXT WORDS..
@@ -35,5 +37,9 @@ expect 3 'lustrocov: cannot read folder' run folder a.csv
 expect 4 'lustrocov: syntax at byte 4' run cut.lus a.csv
 expect 4 'lustrocov: literal out of range at byte 54' run alarm.lus day.csv --width 2 --main rise
 expect 6 'lustrocov: suite record 1: bad value' score e.lus bad.csv
+expect 0 'accepted' verify q.cnf q.lrat
+expect 2 'lustrocov: no file none.lrat' verify q.cnf none.lrat
+expect 6 'lustrocov: proof line 2: no zero' verify q.cnf cut.lrat
+expect 7 'lustrocov: proof refused at step 2: not unit' verify q.cnf turned.lrat
 [ "$wrong" -eq 0 ] && echo "all as they should be"
 exit "$wrong"

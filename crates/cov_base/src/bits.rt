@@ -25,7 +25,8 @@ pub(crate) fn set(words: &mut Vec<u64>, i: usize)
 pub(crate) fn join(words: &mut Vec<u64>, others: &[u64])
     requires { vec_len words.old ≡ length others.now }
     ensures len { vec_len words.new ≡ vec_len words.old }
-    ensures joined { (k : ℕ) → k / 64 < vec_len words.old → bit_of words.new.items k ≡ (bit_of words.old.items k || bit_of others.now k) }
+    ensures joined { (k : ℕ) → k / 64 < vec_len words.old →
+        bit_of words.new.items k ≡ (bit_of words.old.items k || bit_of others.now k) }
 {
     let words = words.as_mut_slice();
     for at in 0..others.len() {

@@ -58,7 +58,8 @@ impl<T> List<T> {
 
     /// The items, each of which may be written. Constant time.
     pub fn items_mut(&mut self) -> &mut [T]
-        ensures* writes_back { sem 𝓛 (Lends (the_row T.row) (Array T.row 0) self.entry result (with_items self.old)) }
+        ensures* writes_back { sem 𝓛
+            (Lends (the_row T.row) (Array T.row 0) self.entry result (with_items self.old)) }
         ensures value { result.now ≡ self.old }
     {
         self.items.as_mut_slice()

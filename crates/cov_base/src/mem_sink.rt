@@ -66,7 +66,8 @@ impl Sink for MemSink {
         ensures empty { piece.now ≡ [] → result ≡ Ok 0 }
         ensures some { IfOk result (λ n. 0 < length piece.now → 0 < n) }
         ensures within { IfOk result (λ n. n ≤ length piece.now) }
-        ensures written { IfOk result (λ n. Appends (written_of self.old) (take n piece.now) (written_of self.new)) }
+        ensures written { IfOk result
+            (λ n. Appends (written_of self.old) (take n piece.now) (written_of self.new)) }
         ensures kept { OnErr result (written_of self.new ≡ written_of self.old) }
         ensures told { SameTold (written_of self.old) (written_of self.new) }
         ensures well { OnOk result (faults_of self.new ≡ faults_of self.old) }
@@ -74,8 +75,10 @@ impl Sink for MemSink {
         ensures never_fall { faults_of self.old ≤ faults_of self.new }
 
         // Beside it: which puts fail, and how much the others take.
-        ensures fails { IsErr result ↔ (0 < length piece.now) × (FailsNext (plan_of self.old) ⊎ (room_of self.old ≡ 0)) }
-        ensures takes { IfOk result (λ n. n ≡ min (length piece.now) (min (chunk_of self.old) (room_of self.old))) }
+        ensures fails { IsErr result ↔
+            (0 < length piece.now) × (FailsNext (plan_of self.old) ⊎ (room_of self.old ≡ 0)) }
+        ensures takes { IfOk result
+            (λ n. n ≡ min (length piece.now) (min (chunk_of self.old) (room_of self.old))) }
         ensures chunk { chunk_of self.new ≡ chunk_of self.old }
         ensures plan_at_empty { piece.now ≡ [] → plan_of self.new ≡ plan_of self.old }
         ensures plan { 0 < length piece.now → plan_of self.new ≡ after_call (plan_of self.old) }

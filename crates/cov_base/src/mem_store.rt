@@ -46,7 +46,8 @@ impl MemStore {
     /// The bytes of the file that has this name, or `None` where no file has it. The cost is that of one
     /// look-up in a map.
     pub fn file(&self, name: &str) -> Option<&[u8]>
-        ensures { IfSome (files_of self.now) (λ told. option_map (λ bytes. bytes.now) result ≡ told name.now) }
+        ensures { IfSome (files_of self.now)
+            (λ told. option_map (λ bytes. bytes.now) result ≡ told name.now) }
     {
         match self.files.get(name) {
             Some(text) => Some(text.bytes()),
@@ -69,13 +70,17 @@ impl Store for MemStore {
         ensures missing { IsErrOf result StoreFault.Missing → Lacks (files_of self.old) name.now }
         ensures files { files_of self.new ≡ files_of self.old }
         ensures ok_counts { OnOk result (counts_of self.new ≡ counts_of self.old) }
-        ensures missing_counts { IsErrOf result StoreFault.Missing → OnlyMissingRose (counts_of self.old) (counts_of self.new) }
-        ensures failed_counts { IsErrOf result StoreFault.Failed → OnlyReadsRose (counts_of self.old) (counts_of self.new) }
-        ensures memory_counts { IsErrOf result StoreFault.Memory → counts_of self.new ≡ counts_of self.old }
+        ensures missing_counts { IsErrOf result StoreFault.Missing →
+            OnlyMissingRose (counts_of self.old) (counts_of self.new) }
+        ensures failed_counts { IsErrOf result StoreFault.Failed →
+            OnlyReadsRose (counts_of self.old) (counts_of self.new) }
+        ensures memory_counts { IsErrOf result StoreFault.Memory →
+            counts_of self.new ≡ counts_of self.old }
         ensures never_fall { NeverFall (counts_of self.old) (counts_of self.new) }
 
         // Beside it: which calls fail, and that a file that is not there is missing.
-        ensures absent { Lacks (files_of self.old) name.now → ¬ FailsNext (plan_of self.old) → IsErrOf result StoreFault.Missing }
+        ensures absent { Lacks (files_of self.old) name.now → ¬ FailsNext (plan_of self.old) →
+            IsErrOf result StoreFault.Missing }
         ensures fails { IsErrOf result StoreFault.Failed ↔ FailsNext (plan_of self.old) }
         ensures plan { plan_of self.new ≡ after_call (plan_of self.old) }
     {
@@ -93,13 +98,17 @@ impl Store for MemStore {
 
     fn write(&mut self, name: &str, bytes: &[u8]) -> Result<(), StoreFault>
         // What each store promises, repeated since a method with clauses of its own shows these alone.
-        ensures ok { OnOk result (BothTold (files_of self.old) (files_of self.new) (Writes name.now bytes.now)) }
-        ensures failed { IsErrOf result StoreFault.Failed → BothTold (files_of self.old) (files_of self.new) (KeepsOthers name.now) }
+        ensures ok { OnOk result
+            (BothTold (files_of self.old) (files_of self.new) (Writes name.now bytes.now)) }
+        ensures failed { IsErrOf result StoreFault.Failed →
+            BothTold (files_of self.old) (files_of self.new) (KeepsOthers name.now) }
         ensures memory { IsErrOf result StoreFault.Memory → files_of self.new ≡ files_of self.old }
         ensures never_missing { IsErrOf result StoreFault.Missing → ⊥ }
         ensures ok_counts { OnOk result (counts_of self.new ≡ counts_of self.old) }
-        ensures failed_counts { IsErrOf result StoreFault.Failed → OnlyWritesRose (counts_of self.old) (counts_of self.new) }
-        ensures memory_counts { IsErrOf result StoreFault.Memory → counts_of self.new ≡ counts_of self.old }
+        ensures failed_counts { IsErrOf result StoreFault.Failed →
+            OnlyWritesRose (counts_of self.old) (counts_of self.new) }
+        ensures memory_counts { IsErrOf result StoreFault.Memory →
+            counts_of self.new ≡ counts_of self.old }
         ensures never_fall { NeverFall (counts_of self.old) (counts_of self.new) }
 
         // Beside it: which calls fail, and that a refusal changes no file.

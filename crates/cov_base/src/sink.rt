@@ -23,7 +23,8 @@ pub trait Sink {
         ensures empty { piece.now ≡ [] → result ≡ Ok 0 }
         ensures some { IfOk result (λ n. 0 < length piece.now → 0 < n) }
         ensures within { IfOk result (λ n. n ≤ length piece.now) }
-        ensures written { IfOk result (λ n. Appends (written self.old) (take n piece.now) (written self.new)) }
+        ensures written { IfOk result
+            (λ n. Appends (written self.old) (take n piece.now) (written self.new)) }
         ensures kept { OnErr result (written self.new ≡ written self.old) }
         ensures told { SameTold (written self.old) (written self.new) }
 
@@ -38,7 +39,8 @@ pub trait Sink {
 pub fn put_all<O: Sink>(out: &mut O, piece: &[u8]) -> Result<(), SinkFailed>
     ensures written { OnOk result (Appends (O.written out.old) piece.now (O.written out.new)) }
     ensures well { OnOk result (O.faults out.new ≡ O.faults out.old) }
-    ensures failed { OnErr result (BreaksOff (O.written out.old) (O.written out.new) (O.faults out.old) (O.faults out.new) piece.now) }
+    ensures failed { OnErr result (BreaksOff (O.written out.old) (O.written out.new)
+        (O.faults out.old) (O.faults out.new) piece.now) }
     ensures told { SameTold (O.written out.old) (O.written out.new) }
     ensures never_fall { O.faults out.old ≤ O.faults out.new }
 {

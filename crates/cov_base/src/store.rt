@@ -59,23 +59,30 @@ pub trait Store {
 
         // A call raises the count of its own answer, and no other.
         ensures ok_counts { OnOk result (counts self.new ≡ counts self.old) }
-        ensures missing_counts { IsErrOf result StoreFault.Missing → OnlyMissingRose (counts self.old) (counts self.new) }
-        ensures failed_counts { IsErrOf result StoreFault.Failed → OnlyReadsRose (counts self.old) (counts self.new) }
-        ensures memory_counts { IsErrOf result StoreFault.Memory → counts self.new ≡ counts self.old }
+        ensures missing_counts { IsErrOf result StoreFault.Missing →
+            OnlyMissingRose (counts self.old) (counts self.new) }
+        ensures failed_counts { IsErrOf result StoreFault.Failed →
+            OnlyReadsRose (counts self.old) (counts self.new) }
+        ensures memory_counts { IsErrOf result StoreFault.Memory →
+            counts self.new ≡ counts self.old }
         ensures never_fall { NeverFall (counts self.old) (counts self.new) };
 
     /// Makes a file hold these bytes, in the place of those that it held. Answers `Failed` where it cannot be written,
     /// and what this one file holds is then open; and `Memory`, at any time, for want of it. The cost is linear in the
     /// bytes.
     fn write(&mut self, name: &str, bytes: &[u8]) -> Result<(), StoreFault>
-        ensures ok { OnOk result (BothTold (files self.old) (files self.new) (Writes name.now bytes.now)) }
-        ensures failed { IsErrOf result StoreFault.Failed → BothTold (files self.old) (files self.new) (KeepsOthers name.now) }
+        ensures ok { OnOk result
+            (BothTold (files self.old) (files self.new) (Writes name.now bytes.now)) }
+        ensures failed { IsErrOf result StoreFault.Failed →
+            BothTold (files self.old) (files self.new) (KeepsOthers name.now) }
         ensures memory { IsErrOf result StoreFault.Memory → files self.new ≡ files self.old }
         ensures never_missing { IsErrOf result StoreFault.Missing → ⊥ }
 
         // A call raises the count of its own answer, and no other.
         ensures ok_counts { OnOk result (counts self.new ≡ counts self.old) }
-        ensures failed_counts { IsErrOf result StoreFault.Failed → OnlyWritesRose (counts self.old) (counts self.new) }
-        ensures memory_counts { IsErrOf result StoreFault.Memory → counts self.new ≡ counts self.old }
+        ensures failed_counts { IsErrOf result StoreFault.Failed →
+            OnlyWritesRose (counts self.old) (counts self.new) }
+        ensures memory_counts { IsErrOf result StoreFault.Memory →
+            counts self.new ≡ counts self.old }
         ensures never_fall { NeverFall (counts self.old) (counts self.new) };
 }

@@ -1,6 +1,8 @@
 -- The laws of the crates below that the steps rest on.
 use Rattle.std.proofs.Common.{◌≡◌, ◌≤◌, ℕ, List, length, arith}
 use Rattle.std.specs.Prelude.{Option}
+use Rattle.cnf_form.specs.Shape.{IsUnsatisfiable, Shape}
+use Rattle.cov_words.specs.Jobs.{AreInRange}
 use Rattle.dep_paths.specs.declared.path.Path.{Path}
 use Rattle.dep_paths.specs.Paths.{IsListOf}
 use Rattle.lus_causality.specs.Laws.{OneRun}
@@ -17,7 +19,10 @@ use Rattle.node_expand.specs.Nesting.{IsWithinDepth}
 use Rattle.op_network.specs.declared.edge.Parts.{Parts}
 use Rattle.op_network.specs.declared.limits.TheConstants.{LEAST_WIDTH, MOST_EDGES, MOST_WIDTH}
 use Rattle.op_network.specs.Valid.{IsValid}
+use Rattle.proof_check.specs.declared.step.ProofStep.{ProofStep}
+use Rattle.proof_check.specs.Check.{Accepted}
 use Rattle.stream_run.specs.Laws.{OneKept}
+use Rattle.cov_words.proofs.Ranges as ranges
 use Rattle.dep_paths.proofs.Counts as counts
 use Rattle.lus_causality.proofs.Runs as runs
 use Rattle.lus_syntax.proofs.OneCutting as cutting
@@ -35,6 +40,7 @@ use Rattle.node_expand.proofs.Kept.{kept}
 use Rattle.node_expand.proofs.ValidNetworks.{network_is_valid}
 use Rattle.node_expand.proofs.WellFormed.{well_formed}
 use Rattle.op_network.proofs.Words.{wrap_is_word}
+use Rattle.proof_check.proofs.Sound.{accepted_sound}
 use Rattle.stream_run.proofs.Keeping as keeping
 use Rattle.cov_station.specs.Sources.{net, source_of}
 
@@ -70,6 +76,12 @@ one_run = runs.one_run
 
 pub one_kept : OneKept
 one_kept = keeping.one_kept
+
+pub in_range : AreInRange
+in_range = ranges.in_range
+
+pub refutes : (formula : Shape) (steps : List ProofStep) → Accepted formula.clauses steps → IsUnsatisfiable formula
+refutes formula steps accepted = accepted_sound formula.clauses steps accepted
 
 -- ---- a source whose tree is accepted
 

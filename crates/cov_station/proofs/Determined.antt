@@ -11,7 +11,7 @@ abbrev pub IsDetermined : {A : Type 0} → Step A → Type 0
 IsDetermined {A} answers = (a b : Result A Refusal) → answers a → answers b → Agree a b
 
 -- two values that a step gives are the same
-same_value : {A : Type 0} {a b : A} → Agree (Ok a) (Ok b) → a ≡ b
+pub same_value : {A : Type 0} {a b : A} → Agree (Ok a) (Ok b) → a ≡ b
 same_value (inl f) = absurd f
 same_value (inr (inl f)) = absurd f
 same_value (inr (inr e)) = cc

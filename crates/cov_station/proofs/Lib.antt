@@ -3,11 +3,12 @@ pub mod ChainSteps
 pub mod Determined
 pub mod Endings
 pub mod FileReads
-pub mod JobRanges
+pub mod FormulaTexts
 pub mod OneStation
 pub mod OneStep
 pub mod OneText
 pub mod QuietSteps
+pub mod Refuted
 pub mod SourceSteps
 pub mod Statuses
 pub mod SuiteSteps

@@ -2,6 +2,8 @@
 use Rattle.std.proofs.Common.{◌≡◌, ℕ, ◌<◌, ◌≤◌, ◌∙◌, List, length, arith, refl, sym, ap, ap₂, inl, inr}
 use Rattle.std.proofs.lemmas.Bool.{cases_order}
 use Rattle.std.specs.Prelude.{◌⊎◌, Option, Some, None, Result, Ok, Err}
+use Rattle.cnf_form.specs.Lines.{Text}
+use Rattle.cnf_form.specs.Shape.{Shape}
 use Rattle.cov_base.specs.Files.{Files}
 use Rattle.lus_causality.specs.Causality.{IsLeastOnCycle}
 use Rattle.lus_syntax.specs.declared.ast.Ast.{Ast}
@@ -15,11 +17,14 @@ use Rattle.lus_types.specs.Typing.{IsLastNode, IsMain}
 use Rattle.op_network.specs.declared.edge.Edge.{Edge}
 use Rattle.op_network.specs.declared.edge.EdgeId.{EdgeId}
 use Rattle.op_network.specs.declared.edge.Parts.{Parts}
+use Rattle.proof_check.specs.declared.step.ProofStep.{ProofStep}
 use Rattle.cov_station.specs.declared.refusal.Refusal.{Refusal}
 use Rattle.cov_station.specs.declared.refusal.Refusal.TheVariants as why
 use Rattle.cov_station.specs.Files.{Reads, reads_whole, lacks_file, fails_to_read, is_too_long}
+use Rattle.cov_station.specs.Formulas.{HoldsFormula, ReadsFormula, has_many_variables, holds_formula, is_no_formula}
 use Rattle.cov_station.specs.Laws.{Agree}
 use Rattle.cov_station.specs.Plans.{ListsPaths, has_many_paths, lists_paths}
+use Rattle.cov_station.specs.Proofs.{AcceptsProof, HoldsProof, ReadsProof, accepts_proof, holds_proof, is_no_proof, refuses_step}
 use Rattle.cov_station.specs.Sources.{Compiles, Expands, HasTypes, IsCausal, IsUncrowded, Lexes, Parses, ReadsSource, Source, byte_of, derives_none, expands, has_bad_byte, has_cycle, has_many_edges, has_open_comment, has_types, has_wide_literal, is_badly_typed, is_causal, is_crowded, is_too_deep, is_uncrowded, lexes, name_of, net, parses, source_of}
 use Rattle.cov_station.specs.Suites.{HoldsTests, ReadsSuite, has_many_instants, has_many_tests, holds_tests, is_no_suite}
 use Rattle.cov_station.specs.Words.{Asks, asks, asks_nothing, asks_too_early, is_done_yet}
@@ -211,6 +216,37 @@ paths_once parts n a b (lists_paths {paths = paths} list few) (lists_paths {path
 paths_once parts n a b (lists_paths list few) (has_many_paths many) = absurd (few many)
 paths_once parts n a b (has_many_paths many) (lists_paths list few) = absurd (few many)
 paths_once parts n a b (has_many_paths many) (has_many_paths many') = inr (inr refl)
+
+-- ---- formulas and proofs
+
+formulas_once : (text : Text) → IsDetermined (HoldsFormula text)
+formulas_once text a b (holds_formula e) (holds_formula f) = inr (inr (cc (e, f)))
+formulas_once text a b (holds_formula e) (is_no_formula f) = absurd (cc (e, f))
+formulas_once text a b (holds_formula e) (has_many_variables f said) = absurd (cc (e, f))
+formulas_once text a b (is_no_formula e) (holds_formula f) = absurd (cc (e, f))
+formulas_once text a b (is_no_formula e) (is_no_formula f) = inr (inr (cc (e, f)))
+formulas_once text a b (is_no_formula e) (has_many_variables f said) = absurd (cc (e, f))
+formulas_once text a b (has_many_variables e said) (holds_formula f) = absurd (cc (e, f))
+formulas_once text a b (has_many_variables e said) (is_no_formula f) = absurd (cc (e, f))
+formulas_once text a b (has_many_variables e said) (has_many_variables f said') = inr (inr (cc (said, said')))
+
+pub formula_once : (told : Files) (name : Name) → IsDetermined (ReadsFormula (Some told) name)
+formula_once told name = then_determined (reads_once told name _) λ text r. formulas_once text
+
+proofs_once : (text : Text) → IsDetermined (HoldsProof text)
+proofs_once text a b (holds_proof e) (holds_proof f) = inr (inr (cc (e, f)))
+proofs_once text a b (holds_proof e) (is_no_proof f) = absurd (cc (e, f))
+proofs_once text a b (is_no_proof e) (holds_proof f) = absurd (cc (e, f))
+proofs_once text a b (is_no_proof e) (is_no_proof f) = inr (inr (cc (e, f)))
+
+pub proof_once : (told : Files) (name : Name) → IsDetermined (ReadsProof (Some told) name)
+proof_once told name = then_determined (reads_once told name _) λ text r. proofs_once text
+
+pub check_once : (formula : Shape) (steps : List ProofStep) → IsDetermined (AcceptsProof formula steps)
+check_once formula steps a b (accepts_proof e) (accepts_proof f) = inr (inr refl)
+check_once formula steps a b (accepts_proof e) (refuses_step f) = absurd (cc (e, f))
+check_once formula steps a b (refuses_step e) (accepts_proof f) = absurd (cc (e, f))
+check_once formula steps a b (refuses_step e) (refuses_step f) = inr (inr (cc (e, f)))
 
 -- ---- words
 

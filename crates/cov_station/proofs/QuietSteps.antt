@@ -2,13 +2,18 @@
 use Rattle.std.proofs.Common.{◌≡◌, ℕ, List, subst, sym}
 use Rattle.std.specs.Prelude.{Option, Result, Err}
 use Rattle.cov_base.specs.Files.{Counts}
+use Rattle.cnf_form.specs.Lines.{Text}
+use Rattle.cnf_form.specs.Shape.{Shape}
 use Rattle.lus_syntax.specs.declared.ast.Ast.{Ast}
 use Rattle.lus_syntax.specs.declared.token.Token.{Token}
 use Rattle.lus_types.specs.Names.{Name}
 use Rattle.op_network.specs.declared.edge.Parts.{Parts}
+use Rattle.proof_check.specs.declared.step.ProofStep.{ProofStep}
 use Rattle.cov_station.specs.declared.refusal.Refusal.{Refusal}
 use Rattle.cov_station.specs.Files.{Counted}
+use Rattle.cov_station.specs.Formulas.{HoldsFormula, has_many_variables, is_no_formula}
 use Rattle.cov_station.specs.Plans.{ListsPaths, has_many_paths}
+use Rattle.cov_station.specs.Proofs.{AcceptsProof, HoldsProof, is_no_proof, refuses_step}
 use Rattle.cov_station.specs.Sources.{Compiles, Expands, HasTypes, IsCausal, IsUncrowded, Lexes, Parses, Source, derives_none, has_bad_byte, has_cycle, has_many_edges, has_open_comment, has_wide_literal, is_badly_typed, is_crowded, is_too_deep}
 use Rattle.cov_station.specs.Steps.{Step, ◌>>=◌, Does, gives, refuses, runs_out, goes_on, stops}
 use Rattle.cov_station.specs.Suites.{HoldsTests, has_many_instants, has_many_tests, is_no_suite}
@@ -70,6 +75,16 @@ pub tests_quiet : (parts : Parts) (bytes : List ℕ) → IsQuiet (HoldsTests par
 tests_quiet parts bytes why old new (is_no_suite h) e = e
 tests_quiet parts bytes why old new (has_many_tests h) e = e
 tests_quiet parts bytes why old new (has_many_instants h) e = e
+
+pub formula_quiet : (text : Text) → IsQuiet (HoldsFormula text)
+formula_quiet text why old new (is_no_formula h) e = e
+formula_quiet text why old new (has_many_variables h k) e = e
+
+pub proof_quiet : (text : Text) → IsQuiet (HoldsProof text)
+proof_quiet text why old new (is_no_proof h) e = e
+
+pub check_quiet : (formula : Shape) (steps : List ProofStep) → IsQuiet (AcceptsProof formula steps)
+check_quiet formula steps why old new (refuses_step h) e = e
 
 pub paths_quiet : (parts : Parts) (n : ℕ) → IsQuiet (ListsPaths parts n)
 paths_quiet parts n why old new (has_many_paths h) e = e

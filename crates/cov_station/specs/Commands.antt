@@ -1,12 +1,14 @@
 -- The commands, step by step.
-use Rattle.std.specs.Prelude.{ℕ, List, Option}
+use Rattle.std.specs.Prelude.{◌≡◌, ℕ, List, Option}
 use Rattle.cov_base.specs.Files.{Files}
 use Rattle.lus_types.specs.Names.{Name}
 use Rattle.cov_words.specs.declared.job.Verb.{Verb}
 use Rattle.cov_words.specs.declared.job.Verb.TheVariants as verb
 use Rattle.cov_words.specs.Jobs.{Asked}
-use Rattle.cov_station.specs.Chains.{Chain, prints, ◌>>=◌}
+use Rattle.cov_station.specs.Chains.{Chain, prints, ◌>>=◌, ◌>>◌}
+use Rattle.cov_station.specs.Formulas.{ReadsFormula}
 use Rattle.cov_station.specs.Plans.{ListsPaths}
+use Rattle.cov_station.specs.Proofs.{AcceptsProof, ReadsProof, acceptance}
 use Rattle.cov_station.specs.RunText.{RunText}
 use Rattle.cov_station.specs.ScoreText.{ScoreText}
 use Rattle.cov_station.specs.Sources.{ReadsSource, net}
@@ -28,6 +30,14 @@ score files source_name suite_name width main most_edges = do
   tests ← ReadsSuite files suite_name (net source)
   prints (ScoreText source paths tests)
 
+-- `verify CNF PROOF`
+abbrev pub verify : Option Files → Name → Name → Chain
+verify files cnf_name proof_name = do
+  formula ← ReadsFormula files cnf_name
+  steps ← ReadsProof files proof_name
+  AcceptsProof formula steps
+  prints (λ text. text ≡ acceptance)
+
 -- a command that isn't done yet: words that name it are refused before, and it has no text
 abbrev pub not_yet : Chain
 not_yet = prints (λ text. ⊥)
@@ -36,6 +46,7 @@ not_yet = prints (λ text. ⊥)
 abbrev pub chain_by : Verb → Option Files → Asked → Chain
 chain_by verb.Run files job = run files job.first job.second job.width job.main
 chain_by verb.Score files job = score files job.first job.second job.width job.main job.most_edges
+chain_by verb.Verify files job = verify files job.first job.second
 chain_by _ files job = not_yet
 
 abbrev pub chain_of : Option Files → Asked → Chain

@@ -2,11 +2,13 @@ pub mod Chains
 pub mod Codes
 pub mod Commands
 pub mod Files
+pub mod Formulas
 pub mod Laws
 pub mod NetworkText
 pub mod Outcomes
 pub mod Plans
 pub mod Playing
+pub mod Proofs
 pub mod Refusals
 pub mod RunText
 pub mod ScoreText

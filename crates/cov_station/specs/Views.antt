@@ -1,7 +1,6 @@
 -- What stands in the code for a source, for paths and for a job.
 use Rattle.std.specs.Prelude.{◌≡◌, ◌≤◌, All, List, Some, length}
 use Rattle.cov_words.specs.declared.job.Job.{Job}
-use Rattle.cov_words.specs.declared.limits.TheConstants.{LEAST_LENGTH, LEAST_WIDTH, MOST_LENGTH, MOST_WIDTH}
 use Rattle.cov_words.specs.Jobs.{Asked, asked}
 use Rattle.dep_paths.specs.declared.limits.TheConstants.{MOST_PATHS}
 use Rattle.dep_paths.specs.declared.path.Path.{Path}
@@ -56,10 +55,3 @@ pub record IsPlanOf (paths : List Path) (plan : Planned) : Type 0 where
 
 abbrev pub IsJobOf : Asked → Job → Type 0
 IsJobOf job it = job ≡ asked it
-
--- the width of a job's words and the length of its paths are in their ranges
-pub record IsInRange (job : Job) : Type 0 where
-  pub narrowest : LEAST_WIDTH ≤ job.width
-  pub widest : job.width ≤ MOST_WIDTH
-  pub shortest : LEAST_LENGTH ≤ job.length
-  pub longest : job.length ≤ MOST_LENGTH

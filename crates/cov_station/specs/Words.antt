@@ -10,9 +10,10 @@ use Rattle.cov_station.specs.declared.refusal.Refusal.TheVariants.{Usage}
 abbrev pub is_served : Verb → Bool → Bool
 is_served verb.Run json = true
 is_served verb.Score json = not json
+is_served verb.Verify json = true
 is_served _ json = false
 
--- the commands that are done as yet: `run`, and `score` without `--json`
+-- the commands that are done as yet: `run`, `verify`, and `score` without `--json`
 abbrev pub is_done_yet : Asked → Bool
 is_done_yet job = is_served job.verb job.json
 

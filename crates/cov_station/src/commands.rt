@@ -7,6 +7,7 @@ ghost use Rattle.cov_station.specs.Steps.{Does, Same};
 
 mod run;
 mod score;
+mod verify;
 
 use crate::refusal::Refusal;
 use crate::words::job_of;
@@ -15,6 +16,7 @@ use cov_words::Verb;
 use run::run_command;
 use score::score_command;
 use std::alloc::Global;
+use verify::verify_command;
 
 /// The text that the arguments ask for.
 pub(crate) fn answer<S: Store>(
@@ -29,15 +31,15 @@ pub(crate) fn answer<S: Store>(
     ensures files { S.files store.new ≡ S.files store.old }
 {
     let job = job_of(alloc, args)?;
-    let (source, suite) = (job.first, job.second);
+    let (first, second) = (job.first, job.second);
     match job.verb {
-        Verb::Run => run_command(alloc, store, source, suite, job.width, job.main),
+        Verb::Run => run_command(alloc, store, first, second, job.width, job.main),
         Verb::Score => {
-            score_command(alloc, store, source, suite, job.width, job.main, job.length)
+            score_command(alloc, store, first, second, job.width, job.main, job.length)
         }
+        Verb::Verify => verify_command(alloc, store, first, second),
         Verb::Session => unreachable!(),
         Verb::Generate => unreachable!(),
-        Verb::Verify => unreachable!(),
         Verb::Certify => unreachable!(),
         Verb::Make => unreachable!(),
     }

@@ -1,15 +1,18 @@
 ghost use Rattle.std.specs.Prelude.{◌≡◌, ℕ, List as Seq, Option, Some, Ok, Err};
+ghost use Rattle.cnf_form.specs.Limits.{most_vars};
 ghost use Rattle.cov_base.specs.Bytes.{Appends, BreaksOff};
 ghost use Rattle.cov_base.specs.Files.{Files, OnlyMissingRose, OnlyReadsRose};
 ghost use Rattle.cov_station.specs.Chains.{Answers, Chain, IsReady};
 ghost use Rattle.cov_station.specs.Commands.{station};
 ghost use Rattle.cov_station.specs.Files.{Counted};
-ghost use Rattle.cov_station.specs.Laws.{Agree, IsReadFault};
+ghost use Rattle.cov_station.specs.Laws.{Agree, HasOneRunText, HasOneScoreText, HoldsUnsatisfiable, IsReadFault};
 ghost use Rattle.cov_station.specs.Outcomes.{Answer, Outside, Ends, IsRefusal, text};
 ghost use Rattle.cov_station.specs.Refusals.{line_of, status_of};
 ghost use Rattle.cov_station.specs.declared.limits.TheConstants.{MOST_FILE_BYTES};
 ghost use Rattle.cov_station.specs.declared.refusal.Refusal.{Refusal as Why};
 ghost use Rattle.cov_station.specs.declared.status.Status.{Status as End};
+ghost use Rattle.cov_words.specs.Jobs.{Asked, meaning};
+ghost use Rattle.cov_words.specs.declared.job.Verb.TheVariants as Verb;
 ghost use Rattle.dep_paths.specs.declared.limits.TheConstants.{MOST_PATHS};
 ghost use Rattle.lus_syntax.specs.declared.limits.TheConstants.{MOST_BYTES, MOST_COUNTED};
 ghost use Rattle.node_expand.specs.declared.limits.TheConstants.{MOST_DEPTH};
@@ -17,7 +20,8 @@ ghost use Rattle.op_network.specs.declared.limits.TheConstants.{MOST_EDGES};
 ghost use Rattle.suite_file.specs.declared.limits.TheConstants.{MOST_INSTANTS, MOST_TESTS};
 
 /// The words and the files determine the answer, but for reads that fail, and where the files are
-/// ready nothing else is refused. Does nothing: its clauses are the law.
+/// ready nothing else is refused. So two calls that are done put the same bytes. Does nothing: its
+/// clauses are the law.
 pub fn one_answer()
     ensures answer { (words : Seq (Seq ℕ)) (told : Files) (a b : Answer) →
         Answers (station words (Some told)) a → Answers (station words (Some told)) b →
@@ -25,6 +29,29 @@ pub fn one_answer()
     ensures ready { (words : Seq (Seq ℕ)) (told : Files) (why : Why) →
         IsReady (station words (Some told)) → Answers (station words (Some told)) (Err why) →
         IsReadFault why }
+    ensures done { (words : Seq (Seq ℕ)) (told : Files) (old new old' new' : Outside) →
+        Ends (station words (Some told)) old new End.Done →
+        Ends (station words (Some told)) old' new' End.Done →
+        (out : Seq ℕ) × Appends old.written out new.written × Appends old'.written out new'.written }
+{}
+
+/// What `run` prints is determined by the source and the tests. Does nothing: its clause is the law.
+pub fn one_run()
+    ensures { HasOneRunText }
+{}
+
+/// What `score` prints is determined by the source, the paths and the tests. Does nothing: its
+/// clause is the law.
+pub fn one_score()
+    ensures { HasOneScoreText }
+{}
+
+/// Where `verify` is done no assignment satisfies the formula that its first file holds. Does
+/// nothing: its clause is the law.
+pub fn verify_means()
+    ensures { (words : Seq (Seq ℕ)) (files : Option Files) (old new : Outside) (job : Asked) →
+        meaning words ≡ Some job → job.verb ≡ Verb.Verify →
+        Ends (station words files) old new End.Done → HoldsUnsatisfiable files job.first }
 {}
 
 /// What each status says of the words' command. Does nothing: its clauses are the law.
@@ -64,4 +91,5 @@ pub fn numbers_of_limits()
     ensures paths { MOST_PATHS ≡ 20000 }
     ensures tests { MOST_TESTS ≡ 210000 }
     ensures instants { MOST_INSTANTS ≡ 7400000 }
+    ensures variables { most_vars ≡ 2000000 }
 {}

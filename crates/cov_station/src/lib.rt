@@ -3,9 +3,11 @@
 
 mod commands;
 mod files;
+mod formula;
 mod laws;
 mod limits;
 mod plans;
+mod proof;
 mod refusal;
 mod runs;
 mod scores;
@@ -17,6 +19,6 @@ mod tests;
 mod top;
 mod words;
 
-pub use laws::{by_status, numbers_of_limits, one_answer};
+pub use laws::{by_status, numbers_of_limits, one_answer, one_run, one_score, verify_means};
 pub use status::Status;
 pub use top::station;

@@ -1,10 +1,16 @@
-ghost use Rattle.std.specs.Prelude.{◌≡◌, ◌≢◌, ◌++◌, IfOk, OnOk};
-ghost use Rattle.cov_station.specs.Refusals.{at_byte, line_of, message_of, status_of, suite_fault as suite_fault_of, type_fault as type_fault_of, word_of};
+ghost use Rattle.std.specs.Prelude.{◌≡◌, ◌≢◌, ◌++◌, ℕ, pos, IfOk, OnOk};
+ghost use Rattle.cov_station.specs.Refusals.{at_byte, line_of, message_of, numbered, over_limit, status_of};
 ghost use Rattle.cov_station.specs.declared.refusal.Refusal.{Refusal as Why};
 
+mod kinds;
+
+use crate::limits::MOST_VARS;
 use crate::status::Status;
+use cnf_form::DimacsKind;
 use cov_base::{List, Memory, Text, push_decimal};
+use kinds::{dimacs_fault, lrat_fault, step_fault, suite_fault, type_fault};
 use lus_types::TypeKind;
+use proof_check::{LratKind, StepKind};
 use std::alloc::Global;
 use suite_file::SuiteKind;
 
@@ -22,24 +28,8 @@ pub(crate) enum Quantity {
     Instants,
 }
 
-impl Quantity {
-    /// The word for it in a line.
-    fn word(&self) -> &'static [u8]
-        ensures { result.now ≡ word_of self.now }
-    {
-        match self {
-            Quantity::Bytes => b"bytes",
-            Quantity::Operators => b"operators",
-            Quantity::Calls => b"calls",
-            Quantity::Edges => b"edges",
-            Quantity::Paths => b"paths",
-            Quantity::Tests => b"tests",
-            Quantity::Instants => b"instants",
-        }
-    }
-}
-
-/// Why a command refuses. Bytes, and the records of a suite, count from 0.
+/// Why a command refuses. Bytes, and the records of a suite, count from 0; lines, and the steps of a
+/// proof, from 1.
 #[derive(Debug, Drop)]
 pub(crate) enum Refusal {
     Usage,
@@ -54,7 +44,13 @@ pub(crate) enum Refusal {
     Cycle(Text),
     /// A quantity, and the most that it may be.
     OverLimit(Quantity, u32),
+    /// The number of variables that a formula was to have.
+    ManyVariables(u32),
     Suite(SuiteKind, u32),
+    Formula(DimacsKind, u32),
+    Proof(LratKind, u32),
+    /// A step of a proof that is refused.
+    RefusedStep(StepKind, u32),
     Memory,
 }
 
@@ -71,8 +67,11 @@ impl Refusal {
                 Status::Source
             }
             Refusal::Syntax(_) | Refusal::Typing(_, _) | Refusal::Cycle(_) => Status::Source,
-            Refusal::OverLimit(_, _) => Status::Limit,
-            Refusal::Suite(_, _) => Status::Unreadable,
+            Refusal::OverLimit(_, _) | Refusal::ManyVariables(_) => Status::Limit,
+            Refusal::Suite(_, _) | Refusal::Formula(_, _) | Refusal::Proof(_, _) => {
+                Status::Unreadable
+            }
+            Refusal::RefusedStep(_, _) => Status::Refused,
             Refusal::Memory => Status::Memory,
         }
     }
@@ -103,48 +102,20 @@ impl Refusal {
             Refusal::Syntax(at) => push_place(line, b"syntax", *at),
             Refusal::Typing(kind, at) => push_place(line, type_fault(*kind), *at),
             Refusal::Cycle(edge) => push_name(line, b"cycle at ", edge.bytes()),
-            Refusal::OverLimit(quantity, most) => push_limit(line, *quantity, *most),
-            Refusal::Suite(kind, row) => push_record(line, *kind, *row),
+            Refusal::OverLimit(quantity, most) => {
+                push_limit(line, quantity.word(), i64::from(*most) + 1, *most)
+            }
+            Refusal::ManyVariables(count) => {
+                push_limit(line, b"variables", i64::from(*count), MOST_VARS)
+            }
+            Refusal::Suite(kind, at) => push_fault(line, b"suite record ", *at, suite_fault(*kind)),
+            Refusal::Formula(kind, at) => push_fault(line, b"cnf line ", *at, dimacs_fault(*kind)),
+            Refusal::Proof(kind, at) => push_fault(line, b"proof line ", *at, lrat_fault(*kind)),
+            Refusal::RefusedStep(kind, at) => {
+                push_fault(line, b"proof refused at step ", *at, step_fault(*kind))
+            }
             Refusal::Memory => Err(Memory),
         }
-    }
-}
-
-/// The words for a fault of typing.
-fn type_fault(kind: TypeKind) -> &'static [u8]
-    ensures { result.now ≡ type_fault_of kind }
-{
-    match kind {
-        TypeKind::Clocked => b"clocked",
-        TypeKind::Unsupported => b"unsupported",
-        TypeKind::Duplicate => b"duplicate",
-        TypeKind::Unknown => b"unknown",
-        TypeKind::NotANode => b"not a node",
-        TypeKind::Arity => b"arity",
-        TypeKind::Mismatch => b"mismatch",
-        TypeKind::LiteralRange => b"literal out of range",
-        TypeKind::Undefined => b"undefined",
-        TypeKind::DefinedTwice => b"defined twice",
-        TypeKind::DefinesInput => b"defines an input",
-        TypeKind::RecursiveNode => b"recursive node",
-        TypeKind::NoMain => b"no main",
-    }
-}
-
-/// The words for a fault of a suite.
-fn suite_fault(kind: SuiteKind) -> &'static [u8]
-    ensures { result.now ≡ suite_fault_of kind }
-{
-    match kind {
-        SuiteKind::NoHeader => b"no header",
-        SuiteKind::NoTestColumn => b"no test column",
-        SuiteKind::UnknownColumn => b"unknown column",
-        SuiteKind::RepeatedColumn => b"repeated column",
-        SuiteKind::MissingColumn => b"missing column",
-        SuiteKind::Width => b"width",
-        SuiteKind::BadName => b"bad name",
-        SuiteKind::SplitTest => b"split test",
-        SuiteKind::BadValue => b"bad value",
     }
 }
 
@@ -163,24 +134,26 @@ fn push_place(line: &mut List<u8>, kind: &[u8], at: u32) -> Result<(), Memory>
     push_decimal(line, i64::from(at))
 }
 
-fn push_limit(line: &mut List<u8>, quantity: Quantity, most: u32) -> Result<(), Memory>
-    ensures { OnOk result (line.new ≡ line.old ++ message_of (Why.OverLimit quantity most)) }
+/// Adds that a count is over its limit. `count` isn't below 0.
+fn push_limit(line: &mut List<u8>, word: &[u8], count: i64, most: u32) -> Result<(), Memory>
+    ensures { (n : ℕ) → count ≡ pos n →
+        OnOk result (line.new ≡ line.old ++ over_limit word.now n most) }
 {
     line.extend_from_slice(b"limit: ")?;
-    line.extend_from_slice(quantity.word())?;
+    line.extend_from_slice(word)?;
     line.extend_from_slice(b" ")?;
-    push_decimal(line, i64::from(most) + 1)?;
+    push_decimal(line, count)?;
     line.extend_from_slice(b" > ")?;
     push_decimal(line, i64::from(most))
 }
 
-fn push_record(line: &mut List<u8>, kind: SuiteKind, row: u32) -> Result<(), Memory>
-    ensures { OnOk result (line.new ≡ line.old ++ message_of (Why.Suite kind row)) }
+fn push_fault(line: &mut List<u8>, what: &[u8], number: u32, kind: &[u8]) -> Result<(), Memory>
+    ensures { OnOk result (line.new ≡ line.old ++ numbered what.now number kind.now) }
 {
-    line.extend_from_slice(b"suite record ")?;
-    push_decimal(line, i64::from(row))?;
+    line.extend_from_slice(what)?;
+    push_decimal(line, i64::from(number))?;
     line.extend_from_slice(b": ")?;
-    line.extend_from_slice(suite_fault(kind))
+    line.extend_from_slice(kind)
 }
 
 impl From<Memory> for Refusal {

@@ -16,9 +16,9 @@ pub enum Status {
     Source,
     /// A counted quantity is over its limit.
     Limit,
-    /// The suite is refused.
+    /// A suite, a formula or the text of a proof is refused.
     Unreadable,
-    /// A proof is refused. No command reads one yet.
+    /// A step of a proof is refused.
     Refused,
     /// The output or a file could not be written.
     WriteFault,

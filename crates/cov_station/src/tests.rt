@@ -4,6 +4,7 @@ mod programs;
 mod scores;
 mod sources;
 mod suites;
+mod verify;
 mod words;
 
 use crate::{Status, station};
@@ -69,23 +70,29 @@ fn command(alloc: Global, verb: &str, options: &[&str]) -> Result<Vec<String>, F
     Ok(words)
 }
 
-/// The files in memory. The calls of these numbers fail.
-fn store_of(alloc: Global, given: Files, failing: Vec<u32>) -> Result<MemStore, Fail> {
-    let (source, suite) = given;
+/// Two files in memory, where they are there. The calls of these numbers fail.
+fn store_with(
+    alloc: Global,
+    first: (&str, Option<&[u8]>),
+    second: (&str, Option<&[u8]>),
+    failing: Vec<u32>,
+) -> Result<MemStore, Fail> {
     let mut files = BTreeMap::new(alloc);
-    if let Some(bytes) = source {
-        let _ = files.insert(
-            String::from_str(alloc, "e.lus")?,
-            Text::from_bytes(alloc, bytes)?,
-        )?;
+    if let Some(bytes) = first.1 {
+        let text = Text::from_bytes(alloc, bytes)?;
+        let _ = files.insert(String::from_str(alloc, first.0)?, text)?;
     }
-    if let Some(bytes) = suite {
-        let _ = files.insert(
-            String::from_str(alloc, "a.csv")?,
-            Text::from_bytes(alloc, bytes)?,
-        )?;
+    if let Some(bytes) = second.1 {
+        let text = Text::from_bytes(alloc, bytes)?;
+        let _ = files.insert(String::from_str(alloc, second.0)?, text)?;
     }
     Ok(MemStore::new(alloc, files, List::from_vec(failing)))
+}
+
+/// A source and a suite in memory. The calls of these numbers fail.
+fn store_of(alloc: Global, given: Files, failing: Vec<u32>) -> Result<MemStore, Fail> {
+    let (source, suite) = given;
+    store_with(alloc, ("e.lus", source), ("a.csv", suite), failing)
 }
 
 /// Does what the words ask for, and compares how it ends and what it wrote.

@@ -1,7 +1,7 @@
 ghost use Rattle.std.specs.Prelude.{◌≡◌, true, map, string_bytes, IfOk};
-ghost use Rattle.cov_words.specs.Jobs.{asked};
+ghost use Rattle.cov_words.specs.Jobs.{IsInRange, asked};
 ghost use Rattle.cov_station.specs.Steps.{Does};
-ghost use Rattle.cov_station.specs.Views.{IsInRange, IsJobOf};
+ghost use Rattle.cov_station.specs.Views.{IsJobOf};
 ghost use Rattle.cov_station.specs.Words.{Asks, is_served};
 
 use crate::refusal::Refusal;
@@ -13,9 +13,9 @@ fn is_served(verb: Verb, json: bool) -> bool
     ensures { result ≡ is_served verb json }
 {
     match verb {
-        Verb::Run => true,
+        Verb::Run | Verb::Verify => true,
         Verb::Score => !json,
-        Verb::Session | Verb::Generate | Verb::Verify | Verb::Certify | Verb::Make => false,
+        Verb::Session | Verb::Generate | Verb::Certify | Verb::Make => false,
     }
 }
 
@@ -23,7 +23,7 @@ fn is_served(verb: Verb, json: bool) -> bool
 pub(crate) fn job_of<'a>(alloc: Global, args: &'a [String]) -> Result<Job<'a>, Refusal>
     ensures answer { Does (Asks (map string_bytes args.now)) IsJobOf result }
     ensures served { IfOk result (λ job. is_served job.verb job.json ≡ true) }
-    ensures ranges { IfOk result IsInRange }
+    ensures ranges { IfOk result (λ job. IsInRange (asked job)) }
 {
     match read_words(alloc, args) {
         Ok(job) => {

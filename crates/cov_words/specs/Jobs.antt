@@ -1,5 +1,5 @@
 -- What a command line means: the job that it names, if `clap` takes it.
-use Rattle.std.specs.Prelude.{◌≡◌, ℕ, Bool, true, false, cond, List, [], ◌∷◌, codes, Option, Some, None, option_map, option_and_then, unwrap_or}
+use Rattle.std.specs.Prelude.{◌≡◌, ◌≤◌, ℕ, Bool, true, false, cond, List, [], ◌∷◌, codes, Option, Some, None, option_map, option_and_then, unwrap_or}
 use Rattle.std.specs.Option.{option_map_or}
 use Rattle.std.specs.Str.{bytes_eq}
 use Rattle.std.specs.Str.Parse.{digits_value, without_leading_plus}
@@ -49,6 +49,16 @@ asked job = record {
   out = option_map (λ s. s.now) job.out;
   json = job.json;
 }
+
+-- the numbers of a job are in their ranges, also those that its command doesn't take
+pub record IsInRange (job : Asked) : Type 0 where
+  pub narrowest : LEAST_WIDTH ≤ job.width
+  pub widest : job.width ≤ MOST_WIDTH
+  pub shortest : LEAST_LENGTH ≤ job.most_edges
+  pub longest : job.most_edges ≤ MOST_LENGTH
+  pub fewest : LEAST_K ≤ job.k
+  pub most : job.k ≤ MOST_K
+  pub budget : job.budget ≤ MOST_BUDGET
 
 -- what `clap` found, a row for each argument that has a value
 abbrev pub rows_in : ArgMatches → List Row
@@ -138,3 +148,7 @@ job_by v args = cond (is_taken v args) (job_of v (matches v args)) None
 abbrev pub meaning : List Text → Option Asked
 meaning [] = None
 meaning (name ∷ args) = option_and_then (λ v. job_by v (name ∷ args)) (verb_of name)
+
+-- each job that a command line names is in range
+abbrev pub AreInRange : Type 0
+AreInRange = (words : List Text) (job : Asked) → meaning words ≡ Some job → IsInRange job

@@ -1,7 +1,7 @@
 ghost use Rattle.std.specs.Prelude.{◌≡◌, ◌≢◌, ◌⊎◌, map, string_bytes, true, false, None, Some, IfOk, OnOk, IsErrOf};
 ghost use Rattle.clap.specs.Words.{kind_of};
 ghost use Rattle.clap.specs.declared.error.kind.ErrorKind.TheVariants as kind;
-ghost use Rattle.cov_words.specs.Jobs.{rows_in, asked, meaning, is_taken, matches as matches_of};
+ghost use Rattle.cov_words.specs.Jobs.{IsInRange, rows_in, asked, meaning, is_taken, matches as matches_of};
 
 use crate::commands::{command, verb_of};
 use crate::job::{Job, Verb, job_of};
@@ -51,6 +51,7 @@ fn parse<'a>(alloc: Global, verb: Verb, args: &'a [String]) -> Result<ArgMatches
 /// of it. The cost is that of `clap`.
 pub fn read_words<'a>(alloc: Global, args: &'a [String]) -> Result<Job<'a>, WordsFault>
     ensures ok { IfOk result (λ job. meaning (map string_bytes args.now) ≡ Some (asked job)) }
+    ensures ranges { IfOk result (λ job. IsInRange (asked job)) }
     ensures usage { IsErrOf result WordsFault.Usage → meaning (map string_bytes args.now) ≡ None }
 {
     let Some(name) = args.first() else {

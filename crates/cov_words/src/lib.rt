@@ -11,7 +11,7 @@ mod tests;
 
 pub use args::{WordsFault, read_words};
 pub use job::{Job, Verb};
-pub use laws::answers_are_determined;
+pub use laws::{answers_are_determined, jobs_are_in_range};
 pub use limits::{
     DEFAULT_BUDGET, DEFAULT_K, DEFAULT_LENGTH, DEFAULT_WIDTH, LEAST_K, LEAST_LENGTH, LEAST_NUMBER,
     LEAST_WIDTH, MOST_BUDGET, MOST_K, MOST_LENGTH, MOST_OBLIGATION, MOST_SIZE, MOST_WIDTH,

@@ -15,14 +15,6 @@ pub mod OneCutting
 pub mod OneExpression
 pub mod Operands
 pub mod Params
-pub mod PlainBoth
-pub mod PlainFails
-pub mod PlainNodes
-pub mod PlainOneTree
-pub mod PlainParts
-pub mod PlainRanks
-pub mod PlainSteps
-pub mod PlainTexts
 pub mod PrintedDecls
 pub mod PrintedExprs
 pub mod PrintedTexts

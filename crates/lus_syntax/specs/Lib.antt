@@ -6,10 +6,6 @@ pub mod Operators
 pub mod Parts
 pub mod Phrases
 pub mod Pieces
-pub mod Plain
-pub mod PlainGrammar
-pub mod PlainOperators
-pub mod PlainReading
 pub mod Printing
 pub mod Reading
 pub mod Sections

@@ -5,7 +5,6 @@ mod ast;
 mod grammar;
 mod limits;
 mod operators;
-mod plain;
 mod printing;
 #[cfg(test)]
 mod test_helpers;
@@ -17,7 +16,6 @@ pub use grammar::fault::SyntaxFault;
 pub use grammar::parser::{one_tree, parse};
 pub use limits::{MOST_BYTES, MOST_COUNTED};
 pub use operators::{Grouping, Infix, Prefix};
-pub use plain::{Binary, PlainFault, Unary, one_plain_tree, read_plain};
 pub use printing::print;
 pub use token::{Keyword, Symbol, Token, TokenKind};
 pub use tokens::crowding::crowded;

@@ -89,7 +89,8 @@ impl<R: Files + Drop> DirStore<R> {
 /// The first `max + 1` bytes that a reader gives, or all where it has no more. An interrupted read is tried again.
 pub(crate) fn read_first<F: Read + Drop>(alloc: Global, file: F, max: usize) -> io::Result<List<u8>>
     ensures within { IfOk result (λ bytes. length bytes ≤ max + 1) }
-    ensures first { IfOk result (λ bytes. IfSome (F.remaining file) (λ left. bytes ≡ take (max + 1) left)) }
+    ensures first { IfOk result
+        (λ bytes. IfSome (F.remaining file) (λ left. bytes ≡ take (max + 1) left)) }
 {
     let limit = max.saturating_add(1);
     let mut bytes = Vec::new(alloc);

@@ -35,7 +35,8 @@ impl<W: Write + Drop> StdSink<W> {
 /// Writes some bytes from the front of a piece, and answers how many. An interrupted write is tried again.
 fn write_some<W: Write>(out: &mut W, piece: &[u8]) -> io::Result<usize>
     ensures within { IfOk result (λ n. n ≤ length piece.now) }
-    ensures written { IfOk result (λ n. Appends (W.contents out.old) (W.contents out.new) (take n piece.now)) }
+    ensures written { IfOk result
+        (λ n. Appends (W.contents out.old) (W.contents out.new) (take n piece.now)) }
     ensures kept { OnErr result (Keeps (W.contents out.old) (W.contents out.new)) }
 {
     for _ in 0..u64::MAX {

@@ -32,7 +32,8 @@ fn take_step<'a>(
     marks: &mut Marks,
     step: &'a ProofStep,
 ) -> Result<(), StepFault>
-    ensures ok { OnOk result (turn (state table.old last.old) step.now ≡ Ok (state table.new last.new)) }
+    ensures ok { OnOk result
+        (turn (state table.old last.old) step.now ≡ Ok (state table.new last.new)) }
     ensures err { IfErr result (IsFaultOf (turn (state table.old last.old) step.now)) }
 {
     match step {

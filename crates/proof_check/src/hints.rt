@@ -56,7 +56,8 @@ pub(crate) fn follow(
     hints: &[i64],
 ) -> Result<(), StepFault>
     ensures ok { OnOk result (hints_fault (reads table.now) (marked marks.old) hints.now ≡ None) }
-    ensures err { IfErr result (IsFault (hints_fault (reads table.now) (marked marks.old) hints.now)) }
+    ensures err { IfErr result
+        (IsFault (hints_fault (reads table.now) (marked marks.old) hints.now)) }
 {
     let count = hints.len();
     for i in 0..count {

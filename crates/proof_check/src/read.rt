@@ -70,7 +70,8 @@ fn read_lits<'t>(
     builder: &mut ClauseBuilder,
 ) -> Result<(Clause, &'t [u8]), LratFault>
     requires { builder.old ≡ [] }
-    ensures ok { IfOk result (λ f. Lists (listed lit_item with_lit line [] (words text.now)) f.0 f.1.now) }
+    ensures ok { IfOk result
+        (λ f. Lists (listed lit_item with_lit line [] (words text.now)) f.0 f.1.now) }
     ensures empty { OnOk result (builder.new ≡ []) }
     ensures err { IfErr result (IsFaultOf (listed lit_item with_lit line [] (words text.now))) }
 {
@@ -93,7 +94,8 @@ fn read_lits<'t>(
 
 /// The hints up to the first 0, and what stands behind it.
 fn read_hints(alloc: Global, text: &[u8], line: u32) -> Result<(List<i64>, &[u8]), LratFault>
-    ensures ok { IfOk result (λ f. Lists (listed hint_item at_end line [] (words text.now)) f.0 f.1.now) }
+    ensures ok { IfOk result
+        (λ f. Lists (listed hint_item at_end line [] (words text.now)) f.0 f.1.now) }
     ensures err { IfErr result (IsFaultOf (listed hint_item at_end line [] (words text.now))) }
 {
     let mut hints = List::new(alloc);
@@ -113,7 +115,8 @@ fn read_hints(alloc: Global, text: &[u8], line: u32) -> Result<(List<i64>, &[u8]
 
 /// The ids up to the first 0, and what stands behind it.
 fn read_ids(alloc: Global, text: &[u8], line: u32) -> Result<(List<u32>, &[u8]), LratFault>
-    ensures ok { IfOk result (λ f. Lists (listed id_item at_end line [] (words text.now)) f.0 f.1.now) }
+    ensures ok { IfOk result
+        (λ f. Lists (listed id_item at_end line [] (words text.now)) f.0 f.1.now) }
     ensures err { IfErr result (IsFaultOf (listed id_item at_end line [] (words text.now))) }
 {
     let mut ids = List::new(alloc);

@@ -53,7 +53,8 @@ fn push_ids(out: &mut List<u8>, ids: &[u32]) -> Result<(), Memory>
 /// Adds the line of a step that adds a clause.
 #[tactic(auto, using(crate::proofs::Writes::addition_pieces, cnf_form::proofs::Starts::starts))]
 fn push_addition(out: &mut List<u8>, id: u32, lits: &[Lit], hints: &[i64]) -> Result<(), Memory>
-    ensures ok { OnOk result (out.new ≡ out.old ++ (step_line (PutStep id lits.now hints.now) ++ codes "\n")) }
+    ensures ok { OnOk result
+        (out.new ≡ out.old ++ (step_line (PutStep id lits.now hints.now) ++ codes "\n")) }
     ensures kept { StartsWith out.new out.old }
 {
     push_decimal(out, i64::from(id))?;

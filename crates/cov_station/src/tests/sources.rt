@@ -109,6 +109,15 @@ fn types_of_equations(rt: HostRuntime) -> Result<(), Fail> {
     )?;
     source_is(
         &rt,
+        b"node n(x: int) returns (y: int); let y = x + 2147483648; tel",
+        b"lustrocov: literal out of range at byte 45\n",
+    )
+}
+
+#[test]
+fn equations_that_are_refused(rt: HostRuntime) -> Result<(), Fail> {
+    source_is(
+        &rt,
         b"node n(x: bool) returns (y: bool); let y = x; y = x; tel",
         b"lustrocov: defined twice at byte 46\n",
     )?;
@@ -126,11 +135,6 @@ fn types_of_equations(rt: HostRuntime) -> Result<(), Fail> {
         &rt,
         b"node n(x: int) returns (y: int); let y = x div 2; tel",
         b"lustrocov: unsupported at byte 43\n",
-    )?;
-    source_is(
-        &rt,
-        b"node n(x: int) returns (y: int); let y = x + 2147483648; tel",
-        b"lustrocov: literal out of range at byte 45\n",
     )
 }
 

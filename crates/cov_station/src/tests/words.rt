@@ -45,6 +45,8 @@ fn words_that_do_not_fit(rt: HostRuntime) -> Result<(), Fail> {
     no_command(&rt, &["run", "e.lus", "a.csv", "--width", "1"])?;
     no_command(&rt, &["run", "e.lus", "a.csv", "--width", "33"])?;
     no_command(&rt, &["run", "--", "e.lus", "a.csv", "--width"])?;
+    no_command(&rt, &["verify", "q.cnf"])?;
+    no_command(&rt, &["verify", "q.cnf", "q.lrat", "--width", "4"])?;
     no_command(&rt, &["score", "e.lus", "a.csv", "--length"])?;
     no_command(&rt, &["score", "e.lus", "a.csv", "--length", "0"])?;
     no_command(&rt, &["score", "e.lus", "a.csv", "--length", "65"])?;
@@ -61,7 +63,6 @@ fn commands_to_come(rt: HostRuntime) -> Result<(), Fail> {
     no_command(&rt, &["score", "e.lus", "a.csv", "--json"])?;
     no_command(&rt, &["session", "e.lus", "a.csv", "s.txt"])?;
     no_command(&rt, &["generate", "e.lus", "a.csv"])?;
-    no_command(&rt, &["verify", "e.lus", "a.csv"])?;
     no_command(&rt, &["certify", "e.lus", "1", "1", "a.csv"])?;
     no_command(&rt, &["make", "1"])
 }

@@ -3,7 +3,6 @@ use crate::ast::{BinOp, Expr, ExprKind, UnOp};
 use crate::grammar::builders::{leaf, one_of, two_of};
 use crate::grammar::parser::parse;
 use crate::limits::MOST_BYTES;
-use crate::plain::read_plain;
 use crate::printing::expressions::put_expr;
 use crate::test_helpers::{ALARM, nest, outline};
 use crate::tokens::crowding::crowded;
@@ -129,16 +128,11 @@ fn operands_have_parentheses_where_they_need_them(rt: HostRuntime) -> Result<(),
 
 #[test]
 fn equations_have_lines_of_their_own(rt: HostRuntime) -> Result<(), Fail> {
-    let read = read_plain(
+    let (out, _) = printed(
         rt.alloc(),
         b"node main(a,b:bool)returns(c:bool);var d:bool;let d=pre(a)and((b));c=true->(d->a)->b;tel",
-    );
-    assert!(rt; read.is_ok());
-    if let Ok(ast) = read {
-        let mut out = List::new(rt.alloc());
-        put_program(&ast, &mut out)?;
-        assert_eq!(rt; out.as_slice(), MAIN);
-    }
+    )?;
+    assert_eq!(rt; out.as_slice(), MAIN);
     Ok(())
 }
 

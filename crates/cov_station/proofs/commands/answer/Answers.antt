@@ -18,3 +18,8 @@ pub returns-in-Score-clause-answer : goal.returns-in-Score-clause-answer
 returns-in-Score-clause-answer g c = went_on c.in_ok-job.ensures.answer λ job a is.
     subst (λ job. Does (Answers (chain_of (g.S.Store.files c.args.store.now) job)) Same c.score_command.result) (sym is)
     (subst (λ verb. Does (Answers (chain_by verb (g.S.Store.files c.args.store.now) (asked c.in_ok-job.job))) Same c.score_command.result) (sym c.in-Score.is) c.score_command.ensures.answer)
+
+pub returns-in-Verify-clause-answer : goal.returns-in-Verify-clause-answer
+returns-in-Verify-clause-answer g c = went_on c.in_ok-job.ensures.answer λ job a is.
+    subst (λ job. Does (Answers (chain_of (g.S.Store.files c.args.store.now) job)) Same c.verify_command.result) (sym is)
+    (subst (λ verb. Does (Answers (chain_by verb (g.S.Store.files c.args.store.now) (asked c.in_ok-job.job))) Same c.verify_command.result) (sym c.in-Verify.is) c.verify_command.ensures.answer)

@@ -4,14 +4,10 @@ use Rattle.std.specs.Prelude.{Err}
 use Rattle.cov_words.specs.Jobs.{asked}
 use Rattle.cov_station.specs.Steps.{gives, refuses, runs_out}
 use Rattle.cov_station.specs.Words.{asks, asks_nothing, asks_too_early}
-use Rattle.cov_station.proofs.JobRanges.{in_range}
 use Rattle.cov_station.proofs.words.job_of.Goals as goal
 
 pub returns-then-is_served-clause-answer : goal.returns-then-is_served-clause-answer
 returns-then-is_served-clause-answer c = gives (asks c.in-Ok.ensures.ok (sym c.is_served.ensures ∙ c.if-is_served.true)) refl
-
-pub returns-then-is_served-clause-ranges : goal.returns-then-is_served-clause-ranges
-returns-then-is_served-clause-ranges c = in_range (map string_bytes c.args.args.now) c.in-Ok.job c.in-Ok.ensures.ok
 
 pub returns-else-is_served-clause-answer : goal.returns-else-is_served-clause-answer
 returns-else-is_served-clause-answer c =
