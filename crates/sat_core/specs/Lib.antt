@@ -1,0 +1,9 @@
+pub mod Bits
+pub mod Conflicts
+pub mod Logs
+pub mod Marks
+pub mod Passes
+pub mod Solving
+pub mod Trail
+pub mod Verdicts
+pub mod Weight
