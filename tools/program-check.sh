@@ -27,9 +27,12 @@ expect() {
 }
 
 expect 0 "$(printf 'test a\nx 0 1 1\ny 0 1 0')" run e.lus a.csv
-expect 0 "$(printf 'test a 3 3\nBC 2/2 100.0%%')" score e.lus a.csv --length 5
-expect 0 "$(printf 'test a 3 3\nBC 1/1 100.0%%')" score --length=3 e.lus a.csv
-expect 0 "$(printf 'test day 6 6\nBC 3/3 100.0%%')" score alarm.lus day.csv --length 4 --main alarm --width 32
+m='missing %d %s x > y#2:0 > y:1 at %d false\n'
+expect 0 "$(printf 'test a 3 3\nBC 2/2 100.0%%\nECC 3/4 75.0%%\nMCC 13/16 81.2%%\n'
+    printf "$m" 4 ECC 0 8 MCC 0 10 MCC 1 12 MCC 2)" score e.lus a.csv --length 5
+expect 0 "$(printf 'test a 3 3\nBC 1/1 100.0%%\nECC 1/2 50.0%%\nMCC 3/6 50.0%%\n'
+    printf "$m" 3 ECC 0 5 MCC 0 7 MCC 1 9 MCC 2)" score --length=3 e.lus a.csv
+expect 0 "$(printf 'test day 6 6\nBC 3/3 100.0%%\nECC 6/6 100.0%%\nMCC 10/10 100.0%%')" score alarm.lus day.csv --length 4 --main alarm --width 32
 expect 1 'lustrocov: usage'
 expect 1 'lustrocov: usage' score e.lus a.csv --length 65
 expect 2 'lustrocov: no file none.csv' run e.lus none.csv

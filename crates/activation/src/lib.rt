@@ -1,10 +1,12 @@
-//! Which obligations on paths the frames of a run meet.
+//! Which obligations on paths are met at each instant of a run, instant by instant.
 #![tactic(auto)]
 
-mod active;
-mod frames;
-mod obligation;
-#[cfg(test)]
-mod tests;
+mod acts;
+mod flags;
+mod goals;
+mod growth;
+mod passage;
+mod tree;
 
-pub use obligation::met;
+pub use acts::Acts;
+pub use tree::{Gate, Node};

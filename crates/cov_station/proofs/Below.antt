@@ -1,10 +1,10 @@
 -- The laws of the crates below that the steps rest on.
-use Rattle.std.proofs.Common.{◌≡◌, ◌≤◌, ℕ, List, length, arith}
+use Rattle.std.proofs.Common.{◌≡◌, ◌<◌, ◌≤◌, ℕ, List, length, arith}
 use Rattle.std.specs.Prelude.{Option}
 use Rattle.cnf_form.specs.Shape.{IsUnsatisfiable, Shape}
 use Rattle.cov_words.specs.Jobs.{AreInRange}
 use Rattle.dep_paths.specs.declared.path.Path.{Path}
-use Rattle.dep_paths.specs.Paths.{IsListOf}
+use Rattle.dep_paths.specs.Paths.{IsListOf, MoreThan}
 use Rattle.lus_causality.specs.Laws.{OneRun}
 use Rattle.lus_syntax.specs.declared.ast.Ast.{Ast}
 use Rattle.lus_syntax.specs.Cuts.{IsCutOnce, IsOneFault, IsUncutAtFault}
@@ -70,6 +70,9 @@ never_both tree width main k at a fine = not_both tree.decls (walk tree width ma
 
 pub one_list : (parts : Parts) (n : ℕ) (ps qs : List Path) → IsListOf parts n ps → IsListOf parts n qs → ps ≡ qs
 one_list = counts.one_list
+
+pub list_is_longer : (count : ℕ) (parts : Parts) (n : ℕ) (ps : List Path) → IsListOf parts n ps → MoreThan count parts n → count < length ps
+list_is_longer = counts.list_is_longer
 
 pub one_run : OneRun
 one_run = runs.one_run

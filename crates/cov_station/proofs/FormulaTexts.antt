@@ -1,13 +1,12 @@
 -- The header of a text in DIMACS CNF, and the lines of a text in LRAT.
-use Rattle.std.proofs.Common.{◌≡◌, ℕ, ◌+◌, ◌≤◌, ◌∙◌, Bool, true, false, not, ◌&&◌, cond, List, [], ◌∷◌, ◌++◌, length, map, length-append, nat_lt, refl, ap, arith, filter}
+use Rattle.std.proofs.Common.{◌≡◌, ℕ, ◌+◌, ◌≤◌, Bool, true, false, not, cond, List, [], ◌∷◌, ◌++◌, length, length-append, refl, arith, filter}
 use Rattle.std.proofs.lemmas.List.{length-map}
 use Rattle.std.specs.List.{onto_first, slice_split}
 use Rattle.std.specs.Option.{option_map}
-use Rattle.std.specs.Prelude.{Option, Some, None, Result, Ok, Err, ◌⊎◌}
+use Rattle.std.specs.Prelude.{Option, Some, None, Result, Ok, Err}
 use Rattle.cnf_form.specs.declared.dimacs.DimacsFault.TheVariants as fault
-use Rattle.cnf_form.specs.Dimacs.{behind_header, clauses_from, formula_from, formula_of, header_of, header_with, no_clauses}
-use Rattle.cnf_form.specs.Limits.{most_vars}
-use Rattle.cnf_form.specs.Lines.{Text, and_then, is_feed, is_nil, is_skipped, lines, without_empty_end, without_return, words}
+use Rattle.cnf_form.specs.Dimacs.{behind_header, formula_from, formula_of, header_of, header_with}
+use Rattle.cnf_form.specs.Lines.{Text, and_then, is_feed, is_skipped, lines, without_empty_end, without_return, words}
 use Rattle.cnf_form.specs.Numbers.{natural_of}
 use Rattle.proof_check.specs.declared.lrat.LratFault.{LratFault}
 use Rattle.proof_check.specs.declared.step.ProofStep.{ProofStep}

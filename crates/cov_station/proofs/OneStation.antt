@@ -13,7 +13,7 @@ use Rattle.cov_station.specs.Steps.{goes_on}
 use Rattle.cov_station.specs.Words.{Asks, asks}
 use Rattle.cov_station.proofs.Determined.{AllDetermined}
 use Rattle.cov_station.proofs.Below.{in_range}
-use Rattle.cov_station.proofs.OneStep.{asks_once, check_once, formula_once, paths_once, proof_once, source_once, suite_once}
+use Rattle.cov_station.proofs.OneStep.{asks_once, check_once, formula_once, plan_once, proof_once, source_once, suite_once}
 use Rattle.cov_station.proofs.OneText.{IsSound, one_run_text, one_score_text, sound}
 
 -- the bits of a word are in their range
@@ -44,11 +44,11 @@ score_once : (told : Files) (source_name suite_name : Name) (width : ℕ) (main 
 score_once told source_name suite_name width main most_edges h = (
   source_once told source_name width main,
   λ source s. (
-    paths_once (net source) most_edges,
-    λ paths p. (
+    plan_once (net source) most_edges,
+    λ plan p. (
       suite_once told suite_name (net source),
       λ tests t text other.
-          one_score_text source paths tests text other (sound_source (Some told) source_name width main source h s),
+          one_score_text source plan tests text other (sound_source (Some told) source_name width main source h s),
     ),
   ),
 )

@@ -1,10 +1,16 @@
 -- Each step has one answer.
-use Rattle.std.proofs.Common.{◌≡◌, ℕ, ◌<◌, ◌≤◌, ◌∙◌, List, length, arith, refl, sym, ap, ap₂, inl, inr}
+use Rattle.std.proofs.Common.{◌≡◌, ℕ, ◌<◌, ◌≤◌, ◌∙◌, List, length, arith, refl, sym, subst, ap, ap₂, inl, inr}
 use Rattle.std.proofs.lemmas.Bool.{cases_order}
 use Rattle.std.specs.Prelude.{◌⊎◌, Option, Some, None, Result, Ok, Err}
 use Rattle.cnf_form.specs.Lines.{Text}
 use Rattle.cnf_form.specs.Shape.{Shape}
 use Rattle.cov_base.specs.Files.{Files}
+use Rattle.dep_paths.specs.declared.limits.TheConstants.{MOST_PATHS}
+use Rattle.dep_paths.specs.declared.path.Condition.{Condition}
+use Rattle.dep_paths.specs.declared.path.Obligation.{Obligation}
+use Rattle.dep_paths.specs.declared.path.Path.{Path}
+use Rattle.dep_paths.specs.Duties.{AsksTooMuch, IsPlanOf, Planned, duties}
+use Rattle.dep_paths.specs.Paths.{IsListOf, MoreThan}
 use Rattle.lus_causality.specs.Causality.{IsLeastOnCycle}
 use Rattle.lus_syntax.specs.declared.ast.Ast.{Ast}
 use Rattle.lus_syntax.specs.declared.ast.Decl.{Decl}
@@ -23,13 +29,13 @@ use Rattle.cov_station.specs.declared.refusal.Refusal.TheVariants as why
 use Rattle.cov_station.specs.Files.{Reads, reads_whole, lacks_file, fails_to_read, is_too_long}
 use Rattle.cov_station.specs.Formulas.{HoldsFormula, ReadsFormula, has_many_variables, holds_formula, is_no_formula}
 use Rattle.cov_station.specs.Laws.{Agree}
-use Rattle.cov_station.specs.Plans.{ListsPaths, has_many_paths, lists_paths}
+use Rattle.cov_station.specs.Plans.{MakesPlan, has_many_obligations, has_many_paths, makes_plan}
 use Rattle.cov_station.specs.Proofs.{AcceptsProof, HoldsProof, ReadsProof, accepts_proof, holds_proof, is_no_proof, refuses_step}
 use Rattle.cov_station.specs.Sources.{Compiles, Expands, HasTypes, IsCausal, IsUncrowded, Lexes, Parses, ReadsSource, Source, byte_of, derives_none, expands, has_bad_byte, has_cycle, has_many_edges, has_open_comment, has_types, has_wide_literal, is_badly_typed, is_causal, is_crowded, is_too_deep, is_uncrowded, lexes, name_of, net, parses, source_of}
 use Rattle.cov_station.specs.Suites.{HoldsTests, ReadsSuite, has_many_instants, has_many_tests, holds_tests, is_no_suite}
 use Rattle.cov_station.specs.Words.{Asks, asks, asks_nothing, asks_too_early, is_done_yet}
 use Rattle.cov_station.proofs.Determined.{IsDetermined, then_determined}
-use Rattle.cov_station.proofs.Below.{never_both, no_cut_at_fault, one_cut, one_lex_fault, one_list, one_place, one_tree, one_type_fault, tree_or_place}
+use Rattle.cov_station.proofs.Below.{never_both, no_cut_at_fault, one_cut, list_is_longer, one_lex_fault, one_list, one_place, one_tree, one_type_fault, tree_or_place}
 
 -- ---- files
 
@@ -188,7 +194,7 @@ compiles_once text width main =
 pub source_once : (told : Files) (name : Name) (width : ℕ) (main : Option Name) → IsDetermined (ReadsSource (Some told) name width main)
 source_once told name width main = then_determined (reads_once told name _) λ text r. compiles_once text width main
 
--- ---- suites and paths
+-- ---- suites and plans
 
 tests_once : (parts : Parts) (bytes : List ℕ) → IsDetermined (HoldsTests parts bytes)
 tests_once parts bytes a b (holds_tests e) (holds_tests f) = inr (inr (cc (e, f)))
@@ -211,11 +217,33 @@ tests_once parts bytes a b (has_many_instants e) (has_many_instants f) = inr (in
 pub suite_once : (told : Files) (name : Name) (parts : Parts) → IsDetermined (ReadsSuite (Some told) name parts)
 suite_once told name parts = then_determined (reads_once told name _) λ bytes r. tests_once parts bytes
 
-pub paths_once : (parts : Parts) (n : ℕ) → IsDetermined (ListsPaths parts n)
-paths_once parts n a b (lists_paths {paths = paths} list few) (lists_paths {paths = others} list' few') = inr (inr (ap Ok (one_list parts n paths others list list')))
-paths_once parts n a b (lists_paths list few) (has_many_paths many) = absurd (few many)
-paths_once parts n a b (has_many_paths many) (lists_paths list few) = absurd (few many)
-paths_once parts n a b (has_many_paths many) (has_many_paths many') = inr (inr refl)
+-- a network has one plan for a length
+one_plan : (parts : Parts) (n : ℕ) (a b : Planned) → IsPlanOf parts a → IsPlanOf parts b → a.length ≡ n → b.length ≡ n → a ≡ b
+one_plan parts n a b p q long long' =
+    let same_length = long ∙ sym long' in
+    let paths = one_list parts b.length a.paths b.paths (subst (λ n. IsListOf parts n a.paths) same_length p.listed) q.listed in
+    let duties_are = p.asked ∙ (ap (duties parts.edges) paths ∙ sym q.asked) in
+    ap₂ (λ (x : ℕ × List Path) (y : List Condition × List Obligation). record { length = x.0; paths = x.1; conditions = y.0; duties = y.1 })
+    (ap₂ (λ l ps. (l, ps)) same_length paths) (ap₂ (λ cs ds. (cs, ds)) (p.unconditional ∙ sym q.unconditional) duties_are)
+
+-- too many paths are no paths within the limit
+few_paths : (parts : Parts) (n : ℕ) → AsksTooMuch parts n → MoreThan MOST_PATHS parts n → ⊥
+few_paths parts n much many =
+    let few = much.few in
+    let more = list_is_longer MOST_PATHS parts n much.paths much.listed many in
+    omega arith
+
+pub plan_once : (parts : Parts) (n : ℕ) → IsDetermined (MakesPlan parts n)
+plan_once parts n a b (makes_plan {plan = plan} is long few loose) (makes_plan {plan = other} is' long' few' loose') =
+    inr (inr (ap Ok (one_plan parts n plan other is is' long long')))
+plan_once parts n a b (makes_plan is long few loose) (has_many_paths many) = absurd (few many)
+plan_once parts n a b (makes_plan is long few loose) (has_many_obligations much) = absurd (loose much)
+plan_once parts n a b (has_many_paths many) (makes_plan is long few loose) = absurd (few many)
+plan_once parts n a b (has_many_paths many) (has_many_paths many') = inr (inr refl)
+plan_once parts n a b (has_many_paths many) (has_many_obligations much) = absurd (few_paths parts n much many)
+plan_once parts n a b (has_many_obligations much) (makes_plan is long few loose) = absurd (loose much)
+plan_once parts n a b (has_many_obligations much) (has_many_paths many) = absurd (few_paths parts n much many)
+plan_once parts n a b (has_many_obligations much) (has_many_obligations much') = inr (inr refl)
 
 -- ---- formulas and proofs
 

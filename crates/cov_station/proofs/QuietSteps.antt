@@ -12,7 +12,7 @@ use Rattle.proof_check.specs.declared.step.ProofStep.{ProofStep}
 use Rattle.cov_station.specs.declared.refusal.Refusal.{Refusal}
 use Rattle.cov_station.specs.Files.{Counted}
 use Rattle.cov_station.specs.Formulas.{HoldsFormula, has_many_variables, is_no_formula}
-use Rattle.cov_station.specs.Plans.{ListsPaths, has_many_paths}
+use Rattle.cov_station.specs.Plans.{MakesPlan, has_many_obligations, has_many_paths}
 use Rattle.cov_station.specs.Proofs.{AcceptsProof, HoldsProof, is_no_proof, refuses_step}
 use Rattle.cov_station.specs.Sources.{Compiles, Expands, HasTypes, IsCausal, IsUncrowded, Lexes, Parses, Source, derives_none, has_bad_byte, has_cycle, has_many_edges, has_open_comment, has_wide_literal, is_badly_typed, is_crowded, is_too_deep}
 use Rattle.cov_station.specs.Steps.{Step, ◌>>=◌, Does, gives, refuses, runs_out, goes_on, stops}
@@ -86,8 +86,9 @@ proof_quiet text why old new (is_no_proof h) e = e
 pub check_quiet : (formula : Shape) (steps : List ProofStep) → IsQuiet (AcceptsProof formula steps)
 check_quiet formula steps why old new (refuses_step h) e = e
 
-pub paths_quiet : (parts : Parts) (n : ℕ) → IsQuiet (ListsPaths parts n)
-paths_quiet parts n why old new (has_many_paths h) e = e
+pub plan_quiet : (parts : Parts) (n : ℕ) → IsQuiet (MakesPlan parts n)
+plan_quiet parts n why old new (has_many_paths h) e = e
+plan_quiet parts n why old new (has_many_obligations h) e = e
 
 pub asks_quiet : (words : List (List ℕ)) → IsQuiet (Asks words)
 asks_quiet words why old new (asks_nothing h) e = e

@@ -1,8 +1,7 @@
 -- A formula whose proof is accepted is satisfied by no assignment.
-use Rattle.std.proofs.Common.{◌≡◌, ℕ, List, subst, sym}
+use Rattle.std.proofs.Common.{◌≡◌, ℕ, List, subst}
 use Rattle.std.specs.Prelude.{Option, Some, Ok}
 use Rattle.cov_base.specs.Files.{Files}
-use Rattle.cov_words.specs.declared.job.Verb.{Verb}
 use Rattle.cov_words.specs.declared.job.Verb.TheVariants as verb
 use Rattle.cov_words.specs.Jobs.{Asked, meaning}
 use Rattle.lus_types.specs.Names.{Name}

@@ -1,18 +1,17 @@
--- What the steps that read a suite or a proof and list paths show of what they give.
-use Rattle.std.proofs.Common.{◌≡◌, ℕ, List, subst}
-use Rattle.std.specs.Prelude.{◌⊎◌, Option, Some, Result, Err}
+-- What the steps that read a suite or a proof and make a plan show of what they give.
+use Rattle.std.proofs.Common.{◌≡◌, ℕ, List, subst, sym}
+use Rattle.std.specs.Prelude.{◌⊎◌, Option, Some, Result, Ok, Err}
 use Rattle.cov_base.specs.Files.{Files}
-use Rattle.dep_paths.specs.Duties.{Planned}
+use Rattle.dep_paths.specs.Duties.{IsPlanOf, Planned}
 use Rattle.lus_types.specs.Names.{Name}
 use Rattle.op_network.specs.declared.edge.Parts.{Parts}
 use Rattle.op_network.specs.declared.test.Test.{Test}
 use Rattle.proof_check.specs.declared.step.ProofStep.{ProofStep}
 use Rattle.cov_station.specs.declared.refusal.Refusal.{Refusal}
-use Rattle.cov_station.specs.Plans.{ListsPaths}
+use Rattle.cov_station.specs.Plans.{MakesPlan, makes_plan}
 use Rattle.cov_station.specs.Proofs.{ReadsProof}
-use Rattle.cov_station.specs.Steps.{Does, Same}
+use Rattle.cov_station.specs.Steps.{Does, Same, gives}
 use Rattle.cov_station.specs.Suites.{ReadsSuite}
-use Rattle.cov_station.specs.Views.{IsPlanOf}
 use Rattle.std.proofs.Common.{inl, inr}
 
 -- a fault that isn't want of memory is that of the text
@@ -36,7 +35,16 @@ pub proof_for : {files files' : Option Files} {name : Name} {answer : Result (Li
     → files' ≡ files → Does (ReadsProof files' name) Same answer → Does (ReadsProof files name) Same answer
 proof_for {name = name} {answer} kept d = subst (λ files. Does (ReadsProof files name) Same answer) kept d
 
--- the paths of a network that is the same
-pub paths_for : {n : ℕ} {parts parts' : Parts} {answer : Result Planned Refusal}
-    → parts' ≡ parts → Does (ListsPaths parts' n) IsPlanOf answer → Does (ListsPaths parts n) IsPlanOf answer
-paths_for {n} {answer = answer} same d = subst (λ parts. Does (ListsPaths parts n) IsPlanOf answer) same d
+plan_is : {n : ℕ} {parts : Parts} {plan : Planned} → MakesPlan parts n (Ok plan) → IsPlanOf parts plan
+plan_is (makes_plan is long few loose) = is
+
+-- the plan of a network that is the same
+pub plan_for : {n : ℕ} {parts parts' : Parts} {answer : Result Planned Refusal}
+    → parts' ≡ parts → Does (MakesPlan parts' n) Same answer → Does (MakesPlan parts n) Same answer
+plan_for {n} {answer = answer} same d = subst (λ parts. Does (MakesPlan parts n) Same answer) same d
+
+-- what was planned for a network is a plan of it
+pub planned : {n : ℕ} {parts parts' : Parts} {plan : Planned}
+    → parts' ≡ parts → Does (MakesPlan parts' n) Same (Ok plan) → IsPlanOf parts plan
+planned {parts' = parts'} {plan = plan} same (gives {a = made} s shown) =
+    subst (λ parts. IsPlanOf parts plan) same (subst (IsPlanOf parts') (sym shown) (plan_is s))

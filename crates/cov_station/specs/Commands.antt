@@ -7,7 +7,7 @@ use Rattle.cov_words.specs.declared.job.Verb.TheVariants as verb
 use Rattle.cov_words.specs.Jobs.{Asked}
 use Rattle.cov_station.specs.Chains.{Chain, prints, ◌>>=◌, ◌>>◌}
 use Rattle.cov_station.specs.Formulas.{ReadsFormula}
-use Rattle.cov_station.specs.Plans.{ListsPaths}
+use Rattle.cov_station.specs.Plans.{MakesPlan}
 use Rattle.cov_station.specs.Proofs.{AcceptsProof, ReadsProof, acceptance}
 use Rattle.cov_station.specs.RunText.{RunText}
 use Rattle.cov_station.specs.ScoreText.{ScoreText}
@@ -26,9 +26,9 @@ run files source_name suite_name width main = do
 abbrev pub score : Option Files → Name → Name → ℕ → Option Name → ℕ → Chain
 score files source_name suite_name width main most_edges = do
   source ← ReadsSource files source_name width main
-  paths ← ListsPaths (net source) most_edges
+  plan ← MakesPlan (net source) most_edges
   tests ← ReadsSuite files suite_name (net source)
-  prints (ScoreText source paths tests)
+  prints (ScoreText source plan tests)
 
 -- `verify CNF PROOF`
 abbrev pub verify : Option Files → Name → Name → Chain

@@ -4,7 +4,7 @@ use Rattle.std.specs.Result.{IsErrAnd}
 use Rattle.cnf_form.specs.Dimacs.{formula_of}
 use Rattle.cnf_form.specs.Shape.{IsUnsatisfiable, Shape}
 use Rattle.cov_base.specs.Files.{Files}
-use Rattle.dep_paths.specs.declared.path.Path.{Path}
+use Rattle.dep_paths.specs.Duties.{Planned}
 use Rattle.lus_types.specs.Names.{Name}
 use Rattle.op_network.specs.declared.limits.TheConstants.{LEAST_WIDTH, MOST_WIDTH}
 use Rattle.op_network.specs.declared.test.Test.{Test}
@@ -31,13 +31,13 @@ HasOneRunText =
     → Compiles text width main (Ok source)
     → (tests : List Test) (a b : List ℕ) → RunText source tests a → RunText source tests b → a ≡ b
 
--- and one text of `score` over paths and tests
+-- and one text of `score` over a plan and tests
 abbrev pub HasOneScoreText : Type 0
 HasOneScoreText =
     (text : List ℕ) (width : ℕ) (main : Option Name) (source : Source) → LEAST_WIDTH ≤ width → width ≤ MOST_WIDTH
     → Compiles text width main (Ok source)
-    → (paths : List Path) (tests : List Test) (a b : List ℕ) → ScoreText source paths tests a → ScoreText source paths tests b
-    → a ≡ b
+    → (plan : Planned) (tests : List Test) (a b : List ℕ)
+    → ScoreText source plan tests a → ScoreText source plan tests b → a ≡ b
 
 -- the file holds a formula that no assignment satisfies
 pub record HoldsUnsatisfiable (files : Option Files) (name : Name) : Type 0 where

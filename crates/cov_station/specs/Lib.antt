@@ -13,10 +13,10 @@ pub mod Refusals
 pub mod RunText
 pub mod ScoreText
 pub mod Scores
+pub mod Scoring
 pub mod Sources
 pub mod Steps
 pub mod Suites
-pub mod Uncovered
 pub mod Values
 pub mod Views
 pub mod Words

@@ -12,7 +12,7 @@ use Rattle.proof_check.specs.declared.step.StepKind.TheVariants as step
 use Rattle.suite_file.specs.declared.fault.SuiteKind.{SuiteKind}
 use Rattle.suite_file.specs.declared.fault.SuiteKind.TheVariants as suite
 use Rattle.cov_station.specs.declared.refusal.Quantity.{Quantity}
-use Rattle.cov_station.specs.declared.refusal.Quantity.TheVariants.{Bytes, Operators, Calls, Edges, Paths, Tests, Instants}
+use Rattle.cov_station.specs.declared.refusal.Quantity.TheVariants.{Bytes, Operators, Calls, Edges, Paths, Obligations, Tests, Instants}
 use Rattle.cov_station.specs.declared.refusal.Refusal.{Refusal}
 use Rattle.cov_station.specs.declared.refusal.Refusal.TheVariants.{Usage, NoFile, CannotRead, BadByte, OpenComment, WideLiteral, Syntax, Typing, Cycle, OverLimit, ManyVariables, Suite, Formula, Proof, RefusedStep, Memory}
 use Rattle.cov_station.specs.declared.status.Status.{Status}
@@ -43,6 +43,7 @@ word_of Operators = codes "operators"
 word_of Calls = codes "calls"
 word_of Edges = codes "edges"
 word_of Paths = codes "paths"
+word_of Obligations = codes "obligations"
 word_of Tests = codes "tests"
 word_of Instants = codes "instants"
 

@@ -1,11 +1,7 @@
--- What stands in the code for a source, for paths and for a job.
-use Rattle.std.specs.Prelude.{◌≡◌, ◌≤◌, All, List, Some, length}
+-- What stands in the code for a source and for a job.
+use Rattle.std.specs.Prelude.{◌≡◌, List, Some}
 use Rattle.cov_words.specs.declared.job.Job.{Job}
 use Rattle.cov_words.specs.Jobs.{Asked, asked}
-use Rattle.dep_paths.specs.declared.limits.TheConstants.{MOST_PATHS}
-use Rattle.dep_paths.specs.declared.path.Path.{Path}
-use Rattle.dep_paths.specs.Duties.{Planned, duties}
-use Rattle.dep_paths.specs.Paths.{path_length}
 use Rattle.lus_causality.specs.declared.ordered.OrderCause.{OrderCause}
 use Rattle.lus_causality.specs.declared.ordered.OrderCause.TheVariants as cause
 use Rattle.lus_causality.specs.Ordered.{Causal}
@@ -45,13 +41,6 @@ pub record IsNetworkOf (source : Source) (ordered : Causal) : Type 0 where
 abbrev pub cycle_refusal : List Edge → OrderCause → Refusal
 cycle_refusal edges (cause.Cycle e) = Cycle (name_of edges e)
 cycle_refusal edges cause.Memory = Memory
-
--- The plan has these paths, and the obligations on them. The paths are within the limit, and as short as it says.
-pub record IsPlanOf (paths : List Path) (plan : Planned) : Type 0 where
-  pub paths_are : plan.paths ≡ paths
-  pub duties_are : plan.duties ≡ duties plan.paths
-  pub few : length plan.paths ≤ MOST_PATHS
-  pub short : All (λ (p : Path). path_length p ≤ plan.length) plan.paths
 
 abbrev pub IsJobOf : Asked → Job → Type 0
 IsJobOf job it = job ≡ asked it

@@ -13,7 +13,7 @@ ghost use Rattle.cov_station.specs.declared.refusal.Refusal.{Refusal as Why};
 ghost use Rattle.cov_station.specs.declared.status.Status.{Status as End};
 ghost use Rattle.cov_words.specs.Jobs.{Asked, meaning};
 ghost use Rattle.cov_words.specs.declared.job.Verb.TheVariants as Verb;
-ghost use Rattle.dep_paths.specs.declared.limits.TheConstants.{MOST_PATHS};
+ghost use Rattle.dep_paths.specs.declared.limits.TheConstants.{MOST_OBLIGATIONS, MOST_PATHS};
 ghost use Rattle.lus_syntax.specs.declared.limits.TheConstants.{MOST_BYTES, MOST_COUNTED};
 ghost use Rattle.node_expand.specs.declared.limits.TheConstants.{MOST_DEPTH};
 ghost use Rattle.op_network.specs.declared.limits.TheConstants.{MOST_EDGES};
@@ -40,7 +40,7 @@ pub fn one_run()
     ensures { HasOneRunText }
 {}
 
-/// What `score` prints is determined by the source, the paths and the tests. Does nothing: its
+/// What `score` prints is determined by the source, the plan and the tests. Does nothing: its
 /// clause is the law.
 pub fn one_score()
     ensures { HasOneScoreText }
@@ -89,6 +89,7 @@ pub fn numbers_of_limits()
     ensures calls { MOST_DEPTH ≡ 100 }
     ensures edges { MOST_EDGES ≡ 8192 }
     ensures paths { MOST_PATHS ≡ 20000 }
+    ensures obligations { MOST_OBLIGATIONS ≡ 200000 }
     ensures tests { MOST_TESTS ≡ 210000 }
     ensures instants { MOST_INSTANTS ≡ 7400000 }
     ensures variables { most_vars ≡ 2000000 }

@@ -24,6 +24,7 @@ pub(crate) enum Quantity {
     Calls,
     Edges,
     Paths,
+    Obligations,
     Tests,
     Instants,
 }

@@ -1,42 +1,37 @@
-ghost use Rattle.std.specs.Prelude.{◌≡◌, ◌≤◌, All, IfOk, length};
-ghost use Rattle.dep_paths.specs.declared.path.Path.{Path as PathValue};
-ghost use Rattle.dep_paths.specs.Duties.{duties};
-ghost use Rattle.dep_paths.specs.Paths.{path_length};
-ghost use Rattle.op_network.specs.Valid.{FitsTest};
+ghost use Rattle.std.specs.Prelude.{IfOk};
+ghost use Rattle.dep_paths.specs.Duties.{IsPlanOf};
+ghost use Rattle.suite_file.specs.Suites.{AreOfSuite};
 ghost use Rattle.cov_station.specs.ScoreText.{ScoreText};
 ghost use Rattle.cov_station.specs.Sources.{Source};
 ghost use Rattle.cov_station.specs.Views.{IsNetworkOf};
 
+mod duties;
+mod keeping;
 mod lines;
-mod network;
-mod one_test;
-#[cfg(test)]
-mod tests;
-mod unmet;
-mod window;
+mod text;
 
 use cov_base::{List, Memory};
-use dep_paths::{MOST_PATHS, Plan};
+use dep_paths::Plan;
+use keeping::table_of;
 use lus_causality::Ordered;
-use network::network_score;
 use op_network::Test;
 use std::alloc::Global;
+use text::text_of;
 
-/// The text of the score of tests that fit the network over a plan of basic coverage. The cost is
-/// that of `network_score`. Answers `Memory` for want of it.
-#[tactic(auto, using(crate::proofs::SourceScores::source_score))]
+/// The text of the score of a suite's tests over a plan of the network. The cost is that of adding
+/// the tests to a table, and linear in the obligations and in the length of the text. Answers
+/// `Memory` for want of it.
 pub(crate) fn score_text(
     alloc: Global,
-    net: &Ordered,
-    plan: &Plan,
-    tests: &[Test],
+    net: Ordered,
+    plan: Plan,
+    tests: List<Test>,
 ) -> Result<List<u8>, Memory>
-    requires fits { All (FitsTest net.now.network) tests.now }
-    requires few { length plan.now.paths ≤ MOST_PATHS }
-    requires duties { plan.now.duties ≡ duties plan.now.paths }
-    requires short { All (λ (p : PathValue). path_length p ≤ plan.now.length) plan.now.paths }
-    ensures { (source : Source) → IsNetworkOf source net.now →
-        IfOk result (ScoreText source plan.now.paths tests.now) }
+    requires tests { AreOfSuite net.network tests }
+    requires plan { IsPlanOf net.network plan }
+    ensures { (source : Source) → IsNetworkOf source net →
+        IfOk result (ScoreText source plan tests) }
 {
-    network_score(alloc, net, plan, tests)
+    let table = table_of(alloc, net, plan, tests)?;
+    text_of(alloc, &table)
 }

@@ -1,6 +1,7 @@
 ghost use Rattle.std.specs.Prelude.{◌≡◌, All, IfOk};
 ghost use Rattle.cov_base.specs.Files.{NeverFall};
 ghost use Rattle.op_network.specs.Valid.{FitsTest};
+ghost use Rattle.suite_file.specs.Suites.{AreOfSuite};
 ghost use Rattle.cov_station.specs.Files.{Counted};
 ghost use Rattle.cov_station.specs.Steps.{Does, Same};
 ghost use Rattle.cov_station.specs.Suites.{HoldsTests, ReadsSuite};
@@ -17,6 +18,7 @@ use suite_file::{MOST_INSTANTS, MOST_TESTS, SuiteFault, read_suite};
 fn tests_of(alloc: Global, bytes: &[u8], net: &Network) -> Result<List<Test>, Refusal>
     ensures answer { Does (HoldsTests net.now bytes.now) Same result }
     ensures fits { IfOk result (λ tests. All (FitsTest net.now) tests) }
+    ensures of_suite { IfOk result (AreOfSuite net.now) }
 {
     match read_suite(alloc, bytes, net) {
         Ok(tests) => Ok(tests),
@@ -42,6 +44,7 @@ pub(crate) fn read_tests<S: Store>(
 ) -> Result<List<Test>, Refusal>
     ensures answer { Does (ReadsSuite (S.files store.old) name.now net.now) Same result }
     ensures fits { IfOk result (λ tests. All (FitsTest net.now) tests) }
+    ensures of_suite { IfOk result (AreOfSuite net.now) }
     ensures counts { Counted result (S.counts store.old) (S.counts store.new) }
     ensures never_fall { NeverFall (S.counts store.old) (S.counts store.new) }
     ensures files { S.files store.new ≡ S.files store.old }

@@ -7,3 +7,7 @@ pub mod Order
 pub mod Counts
 pub mod Valid
 pub mod Existence
+pub mod Numbering
+pub mod DutyLists
+pub mod Pinned
+pub mod FullCriteria

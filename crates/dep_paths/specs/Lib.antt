@@ -4,3 +4,4 @@ pub mod Duties
 pub mod Near
 pub mod Levels
 pub mod Activation
+pub mod Criteria

@@ -1,6 +1,7 @@
 //! The paths of a network, and what a plan asks of a suite.
 #![tactic(auto)]
 
+mod duties;
 mod law;
 mod limits;
 mod longer;
@@ -14,8 +15,8 @@ mod rows;
 mod tests;
 mod walk;
 
-pub use law::{list_is_longer, one_list, some_list};
-pub use limits::{MOST_LENGTH, MOST_PATHS};
+pub use law::{criteria_imply, list_is_longer, one_list, runs_follow_activation, some_list};
+pub use limits::{MOST_LENGTH, MOST_OBLIGATIONS, MOST_PATHS};
 pub use path::{Condition, Criterion, Obligation, Path, Pin, PlanFault, Score, Step};
 pub use paths::list;
 pub use planned::Plan;

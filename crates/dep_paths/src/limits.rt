@@ -1,6 +1,9 @@
 /// The most paths that a plan may have.
 pub const MOST_PATHS: usize = 20_000;
 
+/// The most obligations that a plan may have.
+pub const MOST_OBLIGATIONS: usize = 200_000;
+
 /// The most edges that a path may be asked to have.
 pub const MOST_LENGTH: u32 = 64;
 

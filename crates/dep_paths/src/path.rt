@@ -52,6 +52,23 @@ pub enum Obligation {
     Omc { condition: u32, value: bool },
 }
 
+impl Obligation {
+    ghost use Rattle.std.specs.Prelude.{◌≡◌};
+    ghost use Rattle.dep_paths.specs.Criteria.{criterion_of};
+
+    /// The criterion that asks for it. In constant time.
+    pub fn criterion(self) -> Criterion
+        ensures { result ≡ criterion_of self }
+    {
+        match self {
+            Obligation::Bc { .. } => Criterion::Bc,
+            Obligation::Ecc { .. } => Criterion::Ecc,
+            Obligation::Mcc { .. } => Criterion::Mcc,
+            Obligation::Omc { .. } => Criterion::Omcdc,
+        }
+    }
+}
+
 /// How many of the obligations are covered, and how many there are.
 #[derive(Clone, Copy, Debug, PartialEq, Eq)]
 pub struct Score {

@@ -1,4 +1,5 @@
 ghost use Rattle.std.specs.Prelude.{◌≡◌};
+ghost use Rattle.dep_paths.specs.Duties.{IsWithinLimits};
 
 use crate::path::{Condition, Obligation, Path};
 use cov_base::List;
@@ -14,11 +15,23 @@ pub struct Plan {
 }
 
 impl Model for Plan {
-    ghost use Rattle.dep_paths.specs.Duties.{Planned};
+    ghost use Rattle.dep_paths.specs.Duties.{Planned, IsWithinLimits as IsWithin};
 
     ghost Value = { Planned };
 
-    ghost view = { λ plan. record { length = plan.length; paths = plan.paths; conditions = plan.conditions; duties = plan.duties } };
+    ghost view = { λ plan. record {
+      length = plan.length;
+      paths = plan.paths;
+      conditions = plan.conditions;
+      duties = plan.duties;
+    } };
+
+    ghost invariant = { λ plan. IsWithin (record {
+      length = plan.length;
+      paths = plan.paths;
+      conditions = plan.conditions;
+      duties = plan.duties;
+    }) };
 }
 
 impl Plan {
@@ -28,6 +41,12 @@ impl Plan {
         conditions: List<Condition>,
         duties: List<Obligation>,
     ) -> Plan
+        requires { IsWithinLimits (record {
+          length = length;
+          paths = paths;
+          conditions = conditions;
+          duties = duties;
+        }) }
         ensures { result
             ≡ record { length = length; paths = paths; conditions = conditions; duties = duties } }
     {
@@ -39,9 +58,10 @@ impl Plan {
         }
     }
 
-    /// The most edges that a path may have.
+    /// The most edges that a path may have. Each plan is within its limits.
     pub fn length(&self) -> u32
-        ensures { result ≡ self.now.length }
+        ensures same { result ≡ self.now.length }
+        ensures limits { IsWithinLimits self.now }
     {
         self.length
     }
@@ -60,7 +80,10 @@ impl Plan {
         self.conditions.as_slice()
     }
 
-    /// The obligations: basic coverage, one for each path, in order.
+    /// The obligations, criterion by criterion: for basic coverage each path; for elementary
+    /// conditions each path with true and then with false of its first edge; for multiple
+    /// conditions each path with true and then with false of each edge on it. Only a Truth is asked
+    /// for, and a path with none to ask for has one plain obligation instead.
     pub fn duties(&self) -> &[Obligation]
         ensures { result.now ≡ self.now.duties }
     {

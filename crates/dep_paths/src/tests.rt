@@ -1,5 +1,6 @@
-use crate::path::{Obligation, PlanFault, Step};
+use crate::path::{Criterion, Obligation, Pin, PlanFault, Step};
 use crate::paths::list;
+use crate::planned::Plan;
 use crate::planning::plan;
 use cov_base::{List, Text};
 use op_network::{Edge, EdgeId, Network, Op, Parts, Ty, Value};
@@ -7,18 +8,23 @@ use std::alloc::Global;
 use std::process::Abort;
 use std::test::Fail;
 
-/// Adds an edge of type `Truth`, named by its place.
-fn add(alloc: Global, op: Op, edges: &mut List<Edge>) -> Result<(), Fail> {
+/// Adds an edge, named by its place.
+fn add_typed(alloc: Global, op: Op, ty: Ty, edges: &mut List<Edge>) -> Result<(), Fail> {
     let place = edges.len();
     let name = format!(in alloc; "v{place}")?;
     edges.push(Edge {
         op,
-        ty: Ty::Truth,
+        ty,
         name: Text::from_bytes(alloc, name.as_bytes())?,
         named: true,
         asserted: false,
     })?;
     Ok(())
+}
+
+/// Adds an edge of type `Truth`, named by its place.
+fn add(alloc: Global, op: Op, edges: &mut List<Edge>) -> Result<(), Fail> {
+    add_typed(alloc, op, Ty::Truth, edges)
 }
 
 /// The parts of a network whose only input is its first edge.
@@ -49,6 +55,18 @@ fn example(alloc: Global) -> Result<Parts, Fail> {
     parts_of(alloc, edges, 1)
 }
 
+/// `o = i + 1`, `c = o < i`, where `i` is edge 0, `o` edge 1 and `c` edge 3.
+fn words(alloc: Global) -> Result<Parts, Fail> {
+    let mut edges = List::new(alloc);
+    add_typed(alloc, Op::Input(0), Ty::Word, &mut edges)?;
+    add_typed(alloc, Op::Add(EdgeId(0), EdgeId(2)), Ty::Word, &mut edges)?;
+    add_typed(alloc, Op::Const(Value::Word(1)), Ty::Word, &mut edges)?;
+    add(alloc, Op::Lt(EdgeId(1), EdgeId(0)), &mut edges)?;
+    let mut parts = parts_of(alloc, edges, 1)?;
+    parts.outputs.push(EdgeId(3))?;
+    Ok(parts)
+}
+
 /// `v1 = x and x`, `v2 = v1 and v1`, and so on, with the last as the output.
 fn doublings(alloc: Global, count: u32) -> Result<Parts, Fail> {
     let mut edges = List::new(alloc);
@@ -68,6 +86,27 @@ fn turns(alloc: Global) -> Result<Parts, Fail> {
     parts_of(alloc, edges, 1)
 }
 
+/// The plan of a network, up to so many edges.
+fn plan_of(rt: &impl Abort, alloc: Global, parts: Parts, n: u32) -> Result<Plan, Fail> {
+    assert!(rt; parts.valid());
+    assert!(rt; 1 <= n);
+    assert!(rt; n <= 64);
+    Ok(plan(alloc, &Network::build(parts), n)?)
+}
+
+/// How many obligations of a plan are of a criterion.
+fn total(plan: &Plan, criterion: Criterion) -> usize {
+    plan.duties()
+        .iter()
+        .filter(|duty| duty.criterion() == criterion)
+        .count()
+}
+
+/// How many obligations a plan has of basic coverage, of elementary and of multiple conditions.
+fn totals(plan: &Plan) -> [usize; 3] {
+    [Criterion::Bc, Criterion::Ecc, Criterion::Mcc].map(|criterion| total(plan, criterion))
+}
+
 /// How many complete paths there are of at most `n` edges, if not too many.
 fn count(rt: &impl Abort, alloc: Global, parts: Parts, n: u32) -> Result<Option<usize>, Fail> {
     assert!(rt; parts.valid());
@@ -84,8 +123,7 @@ fn count(rt: &impl Abort, alloc: Global, parts: Parts, n: u32) -> Result<Option<
 fn the_example_has_two_paths(rt: HostRuntime) -> Result<(), Fail> {
     let alloc = rt.alloc();
     let parts = example(alloc)?;
-    assert!(rt; parts.valid());
-    let plan = plan(alloc, &Network::build(parts), 5)?;
+    let plan = plan_of(&rt, alloc, parts, 5)?;
     let short = [
         Step {
             edge: EdgeId(3),
@@ -117,10 +155,6 @@ fn the_example_has_two_paths(rt: HostRuntime) -> Result<(), Fail> {
     assert_eq!(rt; plan.paths().len(), 2);
     assert_eq!(rt; plan.paths()[0].steps.as_slice(), short.as_slice());
     assert_eq!(rt; plan.paths()[1].steps.as_slice(), long.as_slice());
-    assert_eq!(rt;
-        plan.duties(),
-        [Obligation::Bc { path: 0 }, Obligation::Bc { path: 1 }].as_slice()
-    );
     assert_eq!(rt; count(&rt, alloc, example(alloc)?, 3)?, Some(1));
     Ok(())
 }
@@ -148,5 +182,89 @@ fn a_loop_has_a_path_for_each_number_of_turns(rt: HostRuntime) -> Result<(), Fai
     assert_eq!(rt; count(&rt, alloc, turns(alloc)?, 2)?, Some(1));
     assert_eq!(rt; count(&rt, alloc, turns(alloc)?, 7)?, Some(3));
     assert_eq!(rt; count(&rt, alloc, turns(alloc)?, 64)?, Some(32));
+    Ok(())
+}
+
+fn pin(path: u32, place: u8, value: bool) -> Obligation {
+    let pin = Some(Pin { place, value });
+    Obligation::Mcc { path, pin }
+}
+
+#[test]
+fn each_criterion_has_its_obligations(rt: HostRuntime) -> Result<(), Fail> {
+    let alloc = rt.alloc();
+    let long = plan_of(&rt, alloc, example(alloc)?, 5)?;
+    assert_eq!(rt; totals(&long), [2, 4, 16]);
+    let short = plan_of(&rt, alloc, example(alloc)?, 3)?;
+    assert_eq!(rt; totals(&short), [1, 2, 6]);
+    let twice = plan_of(&rt, alloc, doublings(alloc, 1)?, 2)?;
+    assert_eq!(rt; totals(&twice), [2, 4, 8]);
+    Ok(())
+}
+
+#[test]
+fn obligations_stand_in_order(rt: HostRuntime) -> Result<(), Fail> {
+    let alloc = rt.alloc();
+    let plan = plan_of(&rt, alloc, example(alloc)?, 3)?;
+    let duties = [
+        Obligation::Bc { path: 0 },
+        Obligation::Ecc {
+            path: 0,
+            value: Some(true),
+        },
+        Obligation::Ecc {
+            path: 0,
+            value: Some(false),
+        },
+        pin(0, 0, true),
+        pin(0, 0, false),
+        pin(0, 1, true),
+        pin(0, 1, false),
+        pin(0, 2, true),
+        pin(0, 2, false),
+    ];
+    assert_eq!(rt; plan.duties(), duties.as_slice());
+    Ok(())
+}
+
+#[test]
+fn words_are_not_pinned(rt: HostRuntime) -> Result<(), Fail> {
+    let alloc = rt.alloc();
+    let plan = plan_of(&rt, alloc, words(alloc)?, 10)?;
+    let duties = [
+        Obligation::Bc { path: 0 },
+        Obligation::Bc { path: 1 },
+        Obligation::Bc { path: 2 },
+        Obligation::Ecc {
+            path: 0,
+            value: None,
+        },
+        Obligation::Ecc {
+            path: 1,
+            value: None,
+        },
+        Obligation::Ecc {
+            path: 2,
+            value: None,
+        },
+        Obligation::Mcc { path: 0, pin: None },
+        pin(1, 1, true),
+        pin(1, 1, false),
+        pin(2, 2, true),
+        pin(2, 2, false),
+    ];
+    assert_eq!(rt; plan.duties(), duties.as_slice());
+    Ok(())
+}
+
+#[test]
+fn too_many_obligations_are_refused(rt: HostRuntime) -> Result<(), Fail> {
+    let alloc = rt.alloc();
+    let parts = doublings(alloc, 14)?;
+    assert!(rt; parts.valid());
+    match plan(alloc, &Network::build(parts), 15) {
+        Err(fault) => assert_eq!(rt; fault, PlanFault::Obligations),
+        Ok(_) => assert!(rt; false),
+    }
     Ok(())
 }

@@ -16,8 +16,8 @@ use dep_paths::MOST_LENGTH;
 use op_network::{LEAST_WIDTH, MOST_WIDTH};
 use std::alloc::Global;
 
-/// What `score` prints: the tests, how much they cover of the paths of at most `most_edges` edges,
-/// and what they don't cover.
+/// What `score` prints: the tests, how many of the obligations on the paths of at most `most_edges`
+/// edges they cover, and those that they don't.
 pub(crate) fn score_command<S: Store>(
     alloc: Global,
     store: &mut S,
@@ -41,5 +41,5 @@ pub(crate) fn score_command<S: Store>(
     let net = read_source(alloc, store, source, width, main)?;
     let plan = plan_of(alloc, net.network(), most_edges)?;
     let tests = read_tests(alloc, store, suite, net.network())?;
-    Ok(score_text(alloc, &net, &plan, tests.as_slice())?)
+    Ok(score_text(alloc, net, plan, tests)?)
 }

@@ -19,6 +19,7 @@ impl Quantity {
             Quantity::Calls => b"calls",
             Quantity::Edges => b"edges",
             Quantity::Paths => b"paths",
+            Quantity::Obligations => b"obligations",
             Quantity::Tests => b"tests",
             Quantity::Instants => b"instants",
         }

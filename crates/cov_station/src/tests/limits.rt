@@ -110,52 +110,53 @@ fn doublings(alloc: Global, count: u32) -> Result<Vec<u8>, Fail> {
 fn what_is_too_long_is_no_path(rt: HostRuntime) -> Result<(), Fail> {
     let alloc = rt.alloc();
     let suite = b"test,x\nt,1\n";
-    let none = b"test t 1 1\nBC 0/0 -\n";
+    let none = b"test t 1 1\nBC 0/0 -\nECC 0/0 -\nMCC 0/0 -\n";
     let fifteen = doublings(alloc, 15)?;
     score(&rt, fifteen.as_slice(), suite, &["--length", "15"], none)?;
     let sixty = doublings(alloc, 60)?;
-    score(&rt, sixty.as_slice(), suite, &["--length", "60"], none)?;
-    let fourteen = doublings(alloc, 14)?;
-    let all = b"test t 1 1\nBC 16384/16384 100.0%\n";
-    score(&rt, fourteen.as_slice(), suite, &["--length", "15"], all)
+    score(&rt, sixty.as_slice(), suite, &["--length", "60"], none)
 }
 
-/// Five doublings and four times five make 20,000 paths to `i`.
-fn many_paths(alloc: Global, output: &[u8]) -> Result<Vec<u8>, Fail> {
-    let front = b"node m(x: bool) returns (y: bool); var a, b, c, d, e, f, g, h, i: bool; let
-a = x and x; b = a and a; c = b and b; d = c and c; e = d and d;
-f = e and e and e and e and e; g = f and f and f and f and f;
-h = g and g and g and g and g; i = h and h and h and h and h; y = not ";
-    repeated(alloc, front, output, 1, b"; tel")
-}
-
-/// The score of a source is refused for its paths, before the suite is looked for.
-fn has_many_paths<R: Abort + AllocGlobal>(rt: &R, source: &[u8], length: &str) -> Result<(), Fail> {
+/// The score of a source ends so where there is no suite.
+fn unscored<R: Abort + AllocGlobal>(
+    rt: &R,
+    source: &[u8],
+    length: &str,
+    status: Status,
+    line: &[u8],
+) -> Result<(), Fail> {
     let words = command(rt.alloc(), "score", &["--length", length])?;
-    let line = b"lustrocov: limit: paths 20001 > 20000\n";
-    expect(
-        rt,
-        words.as_slice(),
-        (Some(source), None),
-        Status::Limit,
-        line,
-    )
+    expect(rt, words.as_slice(), (Some(source), None), status, line)
+}
+
+/// Five doublings and four times five make 20,000 paths of words to `i`.
+fn many_paths(alloc: Global, output: &[u8]) -> Result<Vec<u8>, Fail> {
+    let front = b"node m(x: int) returns (y: int); var a, b, c, d, e, f, g, h, i: int; let
+a = x + x; b = a + a; c = b + b; d = c + c; e = d + d;
+f = e + e + e + e + e; g = f + f + f + f + f;
+h = g + g + g + g + g; i = h + h + h + h + h; y = -";
+    repeated(alloc, front, output, 1, b"; tel")
 }
 
 #[test]
 fn paths_of_a_network(rt: HostRuntime) -> Result<(), Fail> {
     let alloc = rt.alloc();
+    // 20,000 paths are planned, and then the suite is looked for.
     let most = many_paths(alloc, b"i")?;
-    let text = b"test t 1 1\nBC 20000/20000 100.0%\n";
-    score(
-        &rt,
-        most.as_slice(),
-        b"test,x\nt,1\n",
-        &["--length", "64"],
-        text,
-    )?;
-    has_many_paths(&rt, many_paths(alloc, b"(i and x)")?.as_slice(), "64")?;
-    has_many_paths(&rt, doublings(alloc, 15)?.as_slice(), "16")
+    let planned = b"lustrocov: no file a.csv\n";
+    unscored(&rt, most.as_slice(), "64", Status::Missing, planned)?;
+    let more = many_paths(alloc, b"(i + x)")?;
+    let line = b"lustrocov: limit: paths 20001 > 20000\n";
+    unscored(&rt, more.as_slice(), "64", Status::Limit, line)?;
+    let fifteen = doublings(alloc, 15)?;
+    unscored(&rt, fifteen.as_slice(), "16", Status::Limit, line)
+}
+
+#[test]
+fn obligations_of_a_plan(rt: HostRuntime) -> Result<(), Fail> {
+    let fourteen = doublings(rt.alloc(), 14)?;
+    let line = b"lustrocov: limit: obligations 200001 > 200000\n";
+    unscored(&rt, fourteen.as_slice(), "15", Status::Limit, line)
 }
 
 /// So many tests of one instant each.

@@ -1,5 +1,6 @@
 //! Words that ask for a command, and words that don't.
 
+use super::scores::EXAMPLE;
 use super::{EDGE, SUITE, expect, score, words_of};
 use crate::Status;
 use std::process::Abort;
@@ -69,7 +70,7 @@ fn commands_to_come(rt: HostRuntime) -> Result<(), Fail> {
 
 #[test]
 fn options_in_any_place_and_spelling(rt: HostRuntime) -> Result<(), Fail> {
-    let text = b"test a 3 3\nBC 2/2 100.0%\n";
+    let text = EXAMPLE;
     score(&rt, EDGE, SUITE, &[], text)?;
     score(&rt, EDGE, SUITE, &["--length", "5"], text)?;
     score(&rt, EDGE, SUITE, &["--length=5"], text)?;

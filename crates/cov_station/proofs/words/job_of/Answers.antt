@@ -1,5 +1,4 @@
-use Rattle.std.proofs.Common.{ap, map, refl, sym, ◌∙◌}
-use Rattle.std.specs.Prelude.{string_bytes}
+use Rattle.std.proofs.Common.{ap, refl, sym, ◌∙◌}
 use Rattle.std.specs.Prelude.{Err}
 use Rattle.cov_words.specs.Jobs.{asked}
 use Rattle.cov_station.specs.Steps.{gives, refuses, runs_out}

@@ -1,0 +1,11 @@
+pub mod NameSets
+pub mod TestNames
+pub mod Unions
+pub mod OneTestRun
+pub mod Fronts
+pub mod Tested
+pub mod KeptTests
+pub mod Scoring
+pub mod Answering
+pub mod FullScores
+pub mod Watched

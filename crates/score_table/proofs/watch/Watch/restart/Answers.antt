@@ -1,0 +1,8 @@
+use Rattle.score_table.proofs.Watched.{made_still}
+use Rattle.score_table.proofs.watch.Watch.restart.Goals as goal
+
+pub returns : goal.returns
+returns c = λ parts plan made. record {
+  made = made_still plan c.args.self.now.acts c.restart.new.self c.restart.ensures.tree c.restart.ensures.goals made;
+  stands = c.restart.ensures.stands parts.edges;
+}

@@ -1,0 +1,20 @@
+ghost use Rattle.dep_paths.specs.declared.path.Criterion.TheVariants.{Bc, Ecc, Mcc};
+ghost use Rattle.score_table.specs.Laws.{FullImplies, OneListOfRuns};
+
+use dep_paths::{criteria_imply, runs_follow_activation};
+
+/// Where multiple conditions are full elementary conditions are, and where these are, basic
+/// coverage is. Does nothing: its clauses are the law.
+pub fn full_scores_imply()
+    ensures elementary { FullImplies Mcc Ecc }
+    ensures basic { FullImplies Ecc Bc }
+{
+    criteria_imply();
+    runs_follow_activation();
+}
+
+/// The tests of a table have one list of runs. Does nothing: its clause is the law.
+#[tactic(auto, using(crate::proofs::OneTestRun::one_list))]
+pub fn one_list_of_runs()
+    ensures { OneListOfRuns }
+{}
