@@ -8,12 +8,12 @@ use Rattle.dep_paths.specs.declared.path.Obligation.{Obligation}
 use Rattle.dep_paths.specs.declared.path.Obligation.TheVariants.{Bc, Ecc, Mcc, Omc}
 use Rattle.dep_paths.specs.declared.path.Path.{Path}
 use Rattle.dep_paths.specs.declared.path.Pin.{Pin}
-use Rattle.dep_paths.specs.Activation.{Frames, is_active, is_met}
+use Rattle.dep_paths.specs.Activation.{Frames, is_active, activates}
 use Rattle.activation.specs.Acts.{IsGoal, Kept, StandsFor, TellsMet, path_of, pin_of, place_of}
 use Rattle.activation.specs.Passing.{goal_flag}
 
 -- an obligation on a path, by its path and pin
-met_by_path : (edges : List Edge) (paths : List Path) (frames : Frames) (duty : Obligation) (t : ℕ) → IsSome (place_of duty) → is_met edges paths frames duty t ≡ option_map_or (λ (p : Path). is_active edges frames p (pin_of duty) (length p.steps) t) (path_of paths duty) false
+met_by_path : (edges : List Edge) (paths : List Path) (frames : Frames) (duty : Obligation) (t : ℕ) → IsSome (place_of duty) → activates edges paths frames duty t ≡ option_map_or (λ (p : Path). is_active edges frames p (pin_of duty) (length p.steps) t) (path_of paths duty) false
 met_by_path edges paths frames (Bc path) t some = refl
 met_by_path edges paths frames (Ecc path value) t some = refl
 met_by_path edges paths frames (Mcc path pin) t some = refl

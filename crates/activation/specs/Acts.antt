@@ -3,7 +3,7 @@ use Rattle.std.specs.Prelude.{◌≡◌, ◌+◌, ◌++◌, ℕ, Bool, List, [],
 use Rattle.std.specs.Option.{option_and_then}
 use Rattle.op_network.specs.declared.edge.Edge.{Edge}
 use Rattle.op_network.specs.declared.value.Value.{Value}
-use Rattle.dep_paths.specs.Activation.{Frames, first_pin, is_active, is_met}
+use Rattle.dep_paths.specs.Activation.{Frames, first_pin, is_active, activates}
 use Rattle.dep_paths.specs.Duties.{Planned}
 use Rattle.dep_paths.specs.declared.path.Obligation.{Obligation}
 use Rattle.dep_paths.specs.declared.path.Obligation.TheVariants.{Bc, Ecc, Mcc, Omc}
@@ -71,4 +71,4 @@ abbrev pub TellsMet : Kept → ℕ → Bool → Type 0
 TellsMet kept o answer = (edges : List Edge) (plan : Planned) (frames : Frames) (t : ℕ)
     (duty : Obligation) → IsMadeFor plan kept → StandsFor edges frames kept → length frames ≡ t + 1
     → slice_get plan.duties o ≡ Some duty → IsSome (place_of duty)
-    → answer ≡ is_met edges plan.paths frames duty t
+    → answer ≡ activates edges plan.paths frames duty t

@@ -9,9 +9,9 @@ use Rattle.op_network.specs.declared.value.Value.{Value}
 use Rattle.op_network.specs.Admissible.{AssertsHold}
 use Rattle.op_network.specs.Operators.{at_edge}
 use Rattle.op_network.specs.Values.{is_true}
+use Rattle.cov_station.specs.Failures.{failure_line, first_failure}
 use Rattle.cov_station.specs.NetworkText.{are_asserted, asserted}
 use Rattle.cov_station.specs.Playing.{failure_after}
-use Rattle.cov_station.specs.Values.{failure_line, first_failure}
 
 -- the first place from a number on, where one more item stands last
 position_more : (ok : List Bool) (last : Bool) (i n : ℕ) → n ≡ i + length ok

@@ -19,7 +19,9 @@ pub mod RunTexts
 pub mod Columns
 pub mod Failures
 pub mod Frames
-pub mod GrowingLines
+pub mod GrowingStreams
 pub mod Played
 pub mod TableTexts
 pub mod Texts
+pub mod TableScores
+pub mod TableReports

@@ -1,5 +1,5 @@
 -- The words and the files of a call have one answer.
-use Rattle.std.proofs.Common.{◌≡◌, ◌≤◌, ℕ, List, sym, ◌∙◌}
+use Rattle.std.proofs.Common.{◌≡◌, ◌≤◌, ℕ, Bool, List, sym, ◌∙◌}
 use Rattle.std.specs.Prelude.{Option, Some, Ok}
 use Rattle.cov_base.specs.Files.{Files}
 use Rattle.cov_words.specs.declared.job.Verb.{Verb}
@@ -39,16 +39,16 @@ run_once told source_name suite_name width main h = (
   ),
 )
 
-score_once : (told : Files) (source_name suite_name : Name) (width : ℕ) (main : Option Name) (most_edges : ℕ) → HasWidth width
-    → AllDetermined (score (Some told) source_name suite_name width main most_edges)
-score_once told source_name suite_name width main most_edges h = (
+score_once : (told : Files) (source_name suite_name : Name) (width : ℕ) (main : Option Name) (most_edges : ℕ) (json : Bool) → HasWidth width
+    → AllDetermined (score (Some told) source_name suite_name width main most_edges json)
+score_once told source_name suite_name width main most_edges json h = (
   source_once told source_name width main,
   λ source s. (
     plan_once (net source) most_edges,
     λ plan p. (
       suite_once told suite_name (net source),
       λ tests t text other.
-          one_score_text source plan tests text other (sound_source (Some told) source_name width main source h s),
+          one_score_text source plan tests json text other (sound_source (Some told) source_name width main source h s),
     ),
   ),
 )
@@ -64,7 +64,7 @@ verify_once told cnf_name proof_name = (
 
 chain_once : (told : Files) (v : Verb) (job : Asked) → HasWidth job.width → AllDetermined (chain_by v (Some told) job)
 chain_once told verb.Run job h = run_once told job.first job.second job.width job.main h
-chain_once told verb.Score job h = score_once told job.first job.second job.width job.main job.most_edges h
+chain_once told verb.Score job h = score_once told job.first job.second job.width job.main job.most_edges job.json h
 chain_once told verb.Verify job h = verify_once told job.first job.second
 chain_once told _ job h = λ text other t u. absurd t
 

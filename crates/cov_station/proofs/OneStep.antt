@@ -224,7 +224,7 @@ one_plan parts n a b p q long long' =
     let paths = one_list parts b.length a.paths b.paths (subst (λ n. IsListOf parts n a.paths) same_length p.listed) q.listed in
     let duties_are = p.asked ∙ (ap (duties parts.edges) paths ∙ sym q.asked) in
     ap₂ (λ (x : ℕ × List Path) (y : List Condition × List Obligation). record { length = x.0; paths = x.1; conditions = y.0; duties = y.1 })
-    (ap₂ (λ l ps. (l, ps)) same_length paths) (ap₂ (λ cs ds. (cs, ds)) (p.unconditional ∙ sym q.unconditional) duties_are)
+    (ap₂ (λ l ps. (l, ps)) same_length paths) (ap₂ (λ cs ds. (cs, ds)) (p.conditional ∙ sym q.conditional) duties_are)
 
 -- too many paths are no paths within the limit
 few_paths : (parts : Parts) (n : ℕ) → AsksTooMuch parts n → MoreThan MOST_PATHS parts n → ⊥

@@ -13,15 +13,15 @@ use Rattle.op_network.specs.declared.limits.TheConstants.{LEAST_WIDTH, MOST_WIDT
 use Rattle.op_network.specs.declared.test.Test.{Test}
 use Rattle.op_network.specs.Run.{rows}
 use Rattle.op_network.specs.Valid.{IsValid}
-use Rattle.dep_paths.specs.Criteria.{KeptRun}
 use Rattle.dep_paths.specs.Duties.{Planned}
-use Rattle.score_table.specs.Runs.{IsTestRun}
+use Rattle.score_table.specs.Runs.{AreTestRuns, TestRun}
+use Rattle.score_table.proofs.OneTestRun.{one_list}
 use Rattle.cov_station.specs.RunText.{AreInputsOf, RunText, more_tests, no_tests, test_text}
-use Rattle.cov_station.specs.Scores.{score_text}
+use Rattle.cov_station.specs.Scores.{report_text}
 use Rattle.cov_station.specs.ScoreText.{IsSourceRun, ScoreText}
 use Rattle.cov_station.specs.Sources.{Compiles, Source, expands, has_types, is_causal, is_uncrowded, lexes, net, parses}
 use Rattle.cov_station.specs.Steps.{goes_on}
-use Rattle.cov_station.proofs.Below.{is_valid, keeps_streams, one_kept, one_run}
+use Rattle.cov_station.proofs.Below.{is_valid, keeps_streams, one_run}
 
 -- what is known of a source that a text has
 pub record IsSound (source : Source) : Type 0 where
@@ -120,24 +120,14 @@ one_run_text source tests text other is (more_tests {test = test} {tests = rest}
 
 -- ---- the text of `score`
 
-one_test_run : (source : Source) (test : Test) (a b : KeptRun) → IsSound source → IsTestRun (net source) test a → IsTestRun (net source) test b → a ≡ b
-one_test_run source test a b is p q =
-    let parts = net source in
-    let frames = one_run parts (rows (length parts.inputs) test.instants test.values) a.frames b.frames is.valid is.no_cycle p.ran q.ran in
-    let kept = one_kept parts (rows (length parts.inputs) test.instants test.values) a.kept b.kept p.kept q.kept in
-    ap₂ (λ frames kept. record { frames = frames; kept = kept }) frames kept
+counted : (source : Source) (plan : Planned) (tests : List Test) (runs : List TestRun) → AllZip (IsSourceRun source plan) tests runs → AreTestRuns (net source) plan tests runs
+counted source plan [] [] p = tt
+counted source plan [] (run ∷ runs) p = absurd p
+counted source plan (test ∷ tests) [] p = absurd p
+counted source plan (test ∷ tests) (run ∷ runs) p = (p.0.counted, counted source plan tests runs p.1)
 
-one_list_of_runs : (source : Source) (tests : List Test) (a b : List KeptRun) → IsSound source
-    → AllZip (IsSourceRun source) tests a → AllZip (IsSourceRun source) tests b → a ≡ b
-one_list_of_runs source [] [] [] is p q = refl
-one_list_of_runs source [] [] (run ∷ runs) is p q = absurd q
-one_list_of_runs source [] (run ∷ runs) b is p q = absurd p
-one_list_of_runs source (test ∷ tests) [] b is p q = absurd p
-one_list_of_runs source (test ∷ tests) (run ∷ runs) [] is p q = absurd q
-one_list_of_runs source (test ∷ tests) (run ∷ runs) (run' ∷ runs') is p q =
-    ap₂ (λ (run : KeptRun) (runs : List KeptRun). run ∷ runs) (one_test_run source test run run' is p.0.counted q.0.counted) (one_list_of_runs source tests runs runs' is p.1 q.1)
-
-pub one_score_text : (source : Source) (plan : Planned) (tests : List Test) (text other : List ℕ) → IsSound source
-    → ScoreText source plan tests text → ScoreText source plan tests other → text ≡ other
-one_score_text source plan tests text other is p q =
-    p.printed ∙ (ap (score_text (net source) plan tests) (one_list_of_runs source tests p.runs q.runs is p.ran q.ran) ∙ sym q.printed)
+pub one_score_text : (source : Source) (plan : Planned) (tests : List Test) (json : Bool) (text other : List ℕ) → IsSound source
+    → ScoreText source plan tests json text → ScoreText source plan tests json other → text ≡ other
+one_score_text source plan tests json text other is p q =
+    let same = one_list (net source) plan tests p.runs q.runs is.valid is.no_cycle (counted source plan tests p.runs p.ran) (counted source plan tests q.runs q.ran) in
+    p.printed ∙ (ap (report_text json (net source).edges plan tests) same ∙ sym q.printed)

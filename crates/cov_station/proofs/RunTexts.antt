@@ -22,11 +22,13 @@ use Rattle.op_network.specs.declared.value.Value.{Value}
 use Rattle.op_network.specs.declared.value.Value.TheVariants.{Truth}
 use Rattle.op_network.specs.Operators.{at_edge}
 use Rattle.op_network.specs.Run.{IsRun, IsRunAfter, rows}
-use Rattle.op_network.specs.Valid.{FitsTest, IsValid}
+use Rattle.op_network.specs.Valid.{FitsTest, IsValid, name_at}
 use Rattle.op_network.specs.Values.{is_true}
+use Rattle.cov_report.specs.Values as report
+use Rattle.cov_report.specs.Values.{Enumerators, stream_line, type_at}
+use Rattle.cov_station.specs.Failures.{failure_line, first_failure}
 use Rattle.cov_station.specs.NetworkText as of_network
 use Rattle.cov_station.specs.NetworkText.{NetworkText, asserted, edge_lines, input_rows, stream_in}
-use Rattle.cov_station.specs.Values.{Enumerators, failure_line, first_failure, stream_line}
 use Rattle.cov_station.proofs.Columns.{at_input}
 use Rattle.cov_station.specs.RunText.{AreInputsOf, RunText, enumerators, inputs, no_tests, more_tests, outputs, outputs_of, test_text, variable_lines}
 use Rattle.cov_station.specs.Sources.{Source, net}
@@ -121,7 +123,7 @@ given f None x d h = absurd (cc)
 given f (Some edge) x d h = cc
 
 same_lines : (parts : Parts) (types : Enumerators) (frames : List (List Value)) (ids : List EdgeId) (variables : List Variable)
-    → of_network.enumerators parts.choices ≡ types → AllZip (IsEdgeOf parts.edges) ids variables
+    → report.enumerators parts.choices ≡ types → AllZip (IsEdgeOf parts.edges) ids variables
     → edge_lines parts frames ids ≡ variable_lines types variables (map (stream_in frames) ids)
 same_lines parts types frames [] [] same each = refl
 same_lines parts types frames [] (v ∷ variables) same each = absurd each
@@ -131,18 +133,18 @@ same_lines parts types frames (e ∷ ids) (v ∷ variables) same each =
     let name = given (λ (x : Edge). x.name) (slice_get parts.edges e.0) v.name [] each.0.name in
     let ty = given (λ (x : Edge). x.ty) (slice_get parts.edges e.0) v.ty _ each.0.ty in
     ap (λ w. w ++ edge_lines parts frames ids)
-    (ap (λ t. stream_line t (of_network.name_of parts.edges e) (of_network.type_of parts.edges e) stream) same
-    ∙ ap (λ n. stream_line types n (of_network.type_of parts.edges e) stream) name
+    (ap (λ t. stream_line t (name_at parts.edges e.0) (type_at parts.edges e) stream) same
+    ∙ ap (λ n. stream_line types n (type_at parts.edges e) stream) name
     ∙ ap (λ t. stream_line types v.name t stream) ty)
     ∙ ap (λ w. stream_line types v.name v.ty stream ++ w) (same_lines parts types frames ids variables same each.1)
 
 -- ---- the network's parts
 
-choices_of : (program : Program) (main : List ℕ) → of_network.enumerators (network program main).choices ≡ enumerators program
+choices_of : (program : Program) (main : List ℕ) → report.enumerators (network program main).choices ≡ enumerators program
 unfolding network
 choices_of program main = each program.types
   where
-    each : (types : List Enumeration) → of_network.enumerators (map choice_of types) ≡ map (λ (e : Enumeration). e.names) types
+    each : (types : List Enumeration) → report.enumerators (map choice_of types) ≡ map (λ (e : Enumeration). e.names) types
     each [] = refl
     each (t ∷ types) = ap (λ l. t.names ∷ l) (each types)
 
@@ -167,7 +169,7 @@ record PrintsSame (source : Source) (test : Test) (text : List ℕ) : Type 0 whe
 
 same_ports : (source : Source) (parts : Parts) (frames : List (List Value)) (node : Node) (test : Test) (ok : List Bool)
     → source.program.node source.main ≡ Some node → HasPorts parts node
-    → of_network.enumerators parts.choices ≡ enumerators source.program → asserted parts frames ≡ ok
+    → report.enumerators parts.choices ≡ enumerators source.program → asserted parts frames ≡ ok
     → of_network.test_text parts test.name frames
     ≡ test_text source test (map (stream_in frames) parts.inputs) (map (stream_in frames) parts.outputs) ok
 same_ports source parts frames node test ok found ports types is_ok =

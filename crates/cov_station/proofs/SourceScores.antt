@@ -1,10 +1,9 @@
 -- The score over the network of a source is the score of the source.
-use Rattle.std.proofs.Common.{◌≡◌, ℕ, ◌*◌, List, [], ◌∷◌, length, map, sym, subst, ap, ◌∙◌, arith}
+use Rattle.std.proofs.Common.{◌≡◌, ℕ, Bool, ◌*◌, List, [], ◌∷◌, length, map, sym, subst, ap, ◌∙◌, arith}
 use Rattle.std.specs.Prelude.{Some}
 use Rattle.std.specs.List.{All, AllZip}
 use Rattle.std.proofs.lemmas.List.Elements.{All-head, All-tail}
 use Rattle.std.proofs.lemmas.Slice.Zip.{AllZip-long}
-use Rattle.dep_paths.specs.Criteria.{KeptRun}
 use Rattle.dep_paths.specs.Duties.{Planned}
 use Rattle.lus_causality.specs.Ordered.{Causal}
 use Rattle.lus_types.specs.Programs.{Node, Variable}
@@ -17,7 +16,7 @@ use Rattle.op_network.specs.declared.test.Test.{Test}
 use Rattle.op_network.specs.declared.value.Value.{Value}
 use Rattle.op_network.specs.Run.{IsRun, rows}
 use Rattle.op_network.specs.Valid.{FitsTest}
-use Rattle.score_table.specs.Runs.{IsTestRun}
+use Rattle.score_table.specs.Runs.{IsTestRun, TestRun}
 use Rattle.score_table.specs.Tables.{Tabled}
 use Rattle.suite_file.specs.Suites.{AreOfSuite}
 use Rattle.cov_station.specs.RunText.{AreInputsOf, inputs}
@@ -42,8 +41,8 @@ input_count source ordered is =
     sym (AllZip-long (IsEdgeOf (net source).edges) (net source).inputs found.0.inputs ports.inputs)
     ∙ ap (λ main. length (inputs_of main)) (sym found.1)
 
-source_run : (source : Source) (ordered : Causal) (test : Test) (run : KeptRun) → IsNetworkOf source ordered → FitsTest (net source) test → IsTestRun (net source) test run → IsSourceRun source test run
-source_run source ordered test run is fits ran =
+source_run : (source : Source) (ordered : Causal) (plan : Planned) (test : Test) (run : TestRun) → IsNetworkOf source ordered → FitsTest (net source) test → IsTestRun (net source) plan test run → IsSourceRun source plan test run
+source_run source ordered plan test run is fits ran =
     let width = length (inputs source) in
     let count = input_count source ordered is in
     let size : length test.values ≡ test.instants * width = fits.size ∙ ap (λ n. test.instants * n) count in
@@ -63,28 +62,28 @@ source_run source ordered test run is fits ran =
           (subst (λ (l : List (List Value)). IsRun (net source).width (net source).edges l run.frames) (sym values) ran.ran);
     }
 
-source_runs : (source : Source) (ordered : Causal) (tests : List Test) (runs : List KeptRun) → IsNetworkOf source ordered → All (FitsTest (net source)) tests → AllZip (IsTestRun (net source)) tests runs → AllZip (IsSourceRun source) tests runs
-source_runs source ordered [] [] is fit ran = tt
-source_runs source ordered [] (r ∷ runs) is fit ran = absurd ran
-source_runs source ordered (t ∷ tests) [] is fit ran = absurd ran
-source_runs source ordered (t ∷ tests) (r ∷ runs) is fit ran = (
-  source_run source ordered t r is (All-head (FitsTest (net source)) t tests fit) ran.0,
-  source_runs source ordered tests runs is (All-tail (FitsTest (net source)) t tests fit) ran.1,
+source_runs : (source : Source) (ordered : Causal) (plan : Planned) (tests : List Test) (runs : List TestRun) → IsNetworkOf source ordered → All (FitsTest (net source)) tests → AllZip (IsTestRun (net source) plan) tests runs → AllZip (IsSourceRun source plan) tests runs
+source_runs source ordered plan [] [] is fit ran = tt
+source_runs source ordered plan [] (r ∷ runs) is fit ran = absurd ran
+source_runs source ordered plan (t ∷ tests) [] is fit ran = absurd ran
+source_runs source ordered plan (t ∷ tests) (r ∷ runs) is fit ran = (
+  source_run source ordered plan t r is (All-head (FitsTest (net source)) t tests fit) ran.0,
+  source_runs source ordered plan tests runs is (All-tail (FitsTest (net source)) t tests fit) ran.1,
 )
 
-score_of_net : (source : Source) (ordered : Causal) (plan : Planned) (tests : List Test) (text : List ℕ) → IsNetworkOf source ordered → All (FitsTest (net source)) tests → NetworkScore (net source) plan tests text → ScoreText source plan tests text
-score_of_net source ordered plan tests text is fit score = record {
+score_of_net : (source : Source) (ordered : Causal) (plan : Planned) (tests : List Test) (json : Bool) (text : List ℕ) → IsNetworkOf source ordered → All (FitsTest (net source)) tests → NetworkScore (net source) plan tests json text → ScoreText source plan tests json text
+score_of_net source ordered plan tests json text is fit score = record {
   runs = score.runs;
-  ran = source_runs source ordered tests score.runs is fit score.ran;
+  ran = source_runs source ordered plan tests score.runs is fit score.ran;
   printed = score.printed;
 }
 
-pub source_score : (source : Source) (table : Tabled) (ordered : Causal) (plan : Planned) (tests : List Test) (text : List ℕ)
+pub source_score : (source : Source) (table : Tabled) (ordered : Causal) (plan : Planned) (tests : List Test) (json : Bool) (text : List ℕ)
     → IsNetworkOf source ordered → AreOfSuite ordered.network tests → table ≡ record { network = ordered; plan = plan; tests = tests }
-    → NetworkScore table.network.network table.plan table.tests text → ScoreText source plan tests text
-source_score source table ordered plan tests text is of made score =
-    let made_score : NetworkScore ordered.network plan tests text =
-    subst (λ (t : Tabled). NetworkScore t.network.network t.plan t.tests text) made score in
-    score_of_net source ordered plan tests text is
+    → NetworkScore table.network.network table.plan table.tests json text → ScoreText source plan tests json text
+source_score source table ordered plan tests json text is of made score =
+    let made_score : NetworkScore ordered.network plan tests json text =
+    subst (λ (t : Tabled). NetworkScore t.network.network t.plan t.tests json text) made score in
+    score_of_net source ordered plan tests json text is
     (subst (λ (parts : Parts). All (FitsTest parts) tests) is.network of.fit)
-    (subst (λ (parts : Parts). NetworkScore parts plan tests text) is.network made_score)
+    (subst (λ (parts : Parts). NetworkScore parts plan tests json text) is.network made_score)

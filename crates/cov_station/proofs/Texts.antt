@@ -6,10 +6,10 @@ use Rattle.op_network.specs.declared.test.Test.{Test}
 use Rattle.op_network.specs.declared.value.Value.{Value}
 use Rattle.op_network.specs.Run.{IsRun}
 use Rattle.cov_station.specs.declared.runs.playing.Playing.{Playing}
+use Rattle.cov_station.specs.Failures.{failure_line, first_failure}
 use Rattle.cov_station.specs.NetworkText.{NetworkText, no_tests, more_tests, asserted, edge_lines, input_rows, test_text}
-use Rattle.cov_station.specs.Playing.{AddsLines, IsPlayed, IsTestBehind, ended}
-use Rattle.cov_station.specs.Values.{failure_line, first_failure}
-use Rattle.cov_station.proofs.GrowingLines.{ended_lines}
+use Rattle.cov_station.specs.Playing.{AddsLines, IsPlayed, IsTestBehind, stream_lines}
+use Rattle.cov_station.proofs.GrowingStreams.{lines_in}
 
 text_more : (parts : Parts) (tests : List Test) (text : List ℕ) (test : Test) (frames : List (List Value))
     → IsRun parts.width parts.edges (input_rows parts test) frames → NetworkText parts tests text
@@ -34,7 +34,7 @@ pub test_added : (parts : Parts) (test : Test) (playing : Playing) (old named wi
     → named ≡ old ++ (codes "test " ++ (test.name ++ 10 ∷ []))
     → AddsLines parts (input_rows parts test) parts.inputs named with_inputs
     → IsPlayed parts (input_rows parts test) playing
-    → with_lines ≡ with_inputs ++ ended playing.lines
+    → with_lines ≡ with_inputs ++ stream_lines parts parts.outputs playing.streams
     → new ≡ with_lines ++ failure_line playing.failed
     → IsTestBehind parts test old new
 test_added parts test playing old named with_inputs with_lines new a b played c d =
@@ -42,7 +42,8 @@ test_added parts test playing old named with_inputs with_lines new a b played c 
     let begin : List ℕ = codes "test " in
     let ins : List ℕ = edge_lines parts frames parts.inputs in
     let outs : List ℕ = edge_lines parts frames parts.outputs in
-    let lines : ended playing.lines ≡ outs = ap ended played.lines ∙ ended_lines parts frames parts.outputs in
+    let lines : stream_lines parts parts.outputs playing.streams ≡ outs =
+    ap (stream_lines parts parts.outputs) played.streams ∙ lines_in parts frames parts.outputs in
     let last : List ℕ = failure_line (first_failure (asserted parts frames)) in
     record {
       frames = frames;

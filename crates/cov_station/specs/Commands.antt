@@ -1,5 +1,5 @@
 -- The commands, step by step.
-use Rattle.std.specs.Prelude.{◌≡◌, ℕ, List, Option}
+use Rattle.std.specs.Prelude.{◌≡◌, ℕ, Bool, List, Option}
 use Rattle.cov_base.specs.Files.{Files}
 use Rattle.lus_types.specs.Names.{Name}
 use Rattle.cov_words.specs.declared.job.Verb.{Verb}
@@ -22,13 +22,13 @@ run files source_name suite_name width main = do
   tests ← ReadsSuite files suite_name (net source)
   prints (RunText source tests)
 
--- `score SOURCE SUITE`, over paths of so many edges at most
-abbrev pub score : Option Files → Name → Name → ℕ → Option Name → ℕ → Chain
-score files source_name suite_name width main most_edges = do
+-- `score SOURCE SUITE`, over paths of so many edges at most, as JSON or not
+abbrev pub score : Option Files → Name → Name → ℕ → Option Name → ℕ → Bool → Chain
+score files source_name suite_name width main most_edges json = do
   source ← ReadsSource files source_name width main
   plan ← MakesPlan (net source) most_edges
   tests ← ReadsSuite files suite_name (net source)
-  prints (ScoreText source plan tests)
+  prints (ScoreText source plan tests json)
 
 -- `verify CNF PROOF`
 abbrev pub verify : Option Files → Name → Name → Chain
@@ -45,7 +45,8 @@ not_yet = prints (λ text. ⊥)
 -- what each command does
 abbrev pub chain_by : Verb → Option Files → Asked → Chain
 chain_by verb.Run files job = run files job.first job.second job.width job.main
-chain_by verb.Score files job = score files job.first job.second job.width job.main job.most_edges
+chain_by verb.Score files job =
+    score files job.first job.second job.width job.main job.most_edges job.json
 chain_by verb.Verify files job = verify files job.first job.second
 chain_by _ files job = not_yet
 

@@ -1,5 +1,5 @@
 -- What a chain determines, and what `verify` shows.
-use Rattle.std.specs.Prelude.{◌≡◌, ◌≤◌, ◌⊎◌, ℕ, List, Option, Result, Ok}
+use Rattle.std.specs.Prelude.{◌≡◌, ◌≤◌, ◌⊎◌, ℕ, Bool, List, Option, Result, Ok}
 use Rattle.std.specs.Result.{IsErrAnd}
 use Rattle.cnf_form.specs.Dimacs.{formula_of}
 use Rattle.cnf_form.specs.Shape.{IsUnsatisfiable, Shape}
@@ -31,13 +31,13 @@ HasOneRunText =
     → Compiles text width main (Ok source)
     → (tests : List Test) (a b : List ℕ) → RunText source tests a → RunText source tests b → a ≡ b
 
--- and one text of `score` over a plan and tests
+-- and one text of `score` over a plan and tests, as JSON or not
 abbrev pub HasOneScoreText : Type 0
 HasOneScoreText =
     (text : List ℕ) (width : ℕ) (main : Option Name) (source : Source) → LEAST_WIDTH ≤ width → width ≤ MOST_WIDTH
     → Compiles text width main (Ok source)
-    → (plan : Planned) (tests : List Test) (a b : List ℕ)
-    → ScoreText source plan tests a → ScoreText source plan tests b → a ≡ b
+    → (plan : Planned) (tests : List Test) (json : Bool) (a b : List ℕ)
+    → ScoreText source plan tests json a → ScoreText source plan tests json b → a ≡ b
 
 -- the file holds a formula that no assignment satisfies
 pub record HoldsUnsatisfiable (files : Option Files) (name : Name) : Type 0 where

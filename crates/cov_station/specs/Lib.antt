@@ -1,6 +1,7 @@
 pub mod Chains
 pub mod Codes
 pub mod Commands
+pub mod Failures
 pub mod Files
 pub mod Formulas
 pub mod Laws
@@ -17,6 +18,5 @@ pub mod Scoring
 pub mod Sources
 pub mod Steps
 pub mod Suites
-pub mod Values
 pub mod Views
 pub mod Words

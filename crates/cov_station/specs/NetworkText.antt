@@ -1,42 +1,23 @@
 -- The text of `run` over a network: what is printed of its runs over tests.
-use Rattle.std.specs.Prelude.{ℕ, Bool, List, [], ◌∷◌, ◌++◌, length, map, codes, slice_get}
+use Rattle.std.specs.Prelude.{ℕ, Bool, List, [], ◌∷◌, ◌++◌, length, map, codes}
 use Rattle.std.specs.List.{flat_map, list_all}
-use Rattle.std.specs.Option.{option_map_or}
-use Rattle.op_network.specs.declared.edge.Choice.{Choice}
-use Rattle.op_network.specs.declared.edge.Edge.{Edge}
 use Rattle.op_network.specs.declared.edge.EdgeId.{EdgeId}
 use Rattle.op_network.specs.declared.edge.Parts.{Parts}
 use Rattle.op_network.specs.declared.test.Test.{Test}
-use Rattle.op_network.specs.declared.value.Ty.{Ty}
-use Rattle.op_network.specs.declared.value.Ty.TheVariants as type
 use Rattle.op_network.specs.declared.value.Value.{Value}
 use Rattle.op_network.specs.Operators.{at_edge}
 use Rattle.op_network.specs.Run.{IsRun, rows}
 use Rattle.op_network.specs.Values.{is_true}
-use Rattle.cov_station.specs.Values.{Enumerators, Name, failure_line, first_failure, stream_line}
-
--- the names of the enumerators of these choices
-abbrev pub enumerators : List Choice → Enumerators
-enumerators choices = map (λ (choice : Choice). choice.names) choices
-
-abbrev pub name_of : List Edge → EdgeId → Name
-name_of edges e = option_map_or (λ (edge : Edge). edge.name) (slice_get edges e.0) []
-
-abbrev pub type_of : List Edge → EdgeId → Ty
-type_of edges e = option_map_or (λ (edge : Edge). edge.ty) (slice_get edges e.0) type.Truth
+use Rattle.cov_report.specs.Values.{Name, edge_line}
+use Rattle.cov_station.specs.Failures.{failure_line, first_failure}
 
 -- the values of an edge in these frames, instant by instant
 abbrev pub stream_in : List (List Value) → EdgeId → List Value
 stream_in frames e = map (λ frame. at_edge frame e) frames
 
--- the name of an edge, and its values in these frames
-abbrev pub edge_line : Parts → List (List Value) → EdgeId → List ℕ
-edge_line parts frames e = stream_line (enumerators parts.choices)
-    (name_of parts.edges e) (type_of parts.edges e) (stream_in frames e)
-
--- a line for each of these edges
+-- a line for each of these edges: its name, and its values in these frames
 abbrev pub edge_lines : Parts → List (List Value) → List EdgeId → List ℕ
-edge_lines parts frames ids = flat_map (edge_line parts frames) ids
+edge_lines parts frames ids = flat_map (λ e. edge_line parts e (stream_in frames e)) ids
 
 -- whether all assert edges are true in a frame
 abbrev pub are_asserted : Parts → List Value → Bool

@@ -1,4 +1,5 @@
--- What `run` prints: for each test its name, the inputs and the outputs with their values, and where an assertion fails.
+-- What `run` prints: for each test its name, the inputs and the outputs with their values, and
+-- where an assertion fails.
 use Rattle.std.specs.Prelude.{◌≡◌, ℕ, Bool, List, [], ◌∷◌, ◌++◌, length, map, codes, Option}
 use Rattle.std.specs.List.{flat_map, zip}
 use Rattle.std.specs.Option.{option_map_or}
@@ -8,7 +9,8 @@ use Rattle.node_expand.specs.NodeRuns.{NodeRun}
 use Rattle.node_expand.specs.Streams.{Stream, HaveLength, rows_of}
 use Rattle.op_network.specs.declared.test.Test.{Test}
 use Rattle.op_network.specs.Run.{rows}
-use Rattle.cov_station.specs.Values.{Enumerators, failure_line, first_failure, stream_line}
+use Rattle.cov_report.specs.Values.{Enumerators, stream_line}
+use Rattle.cov_station.specs.Failures.{failure_line, first_failure}
 use Rattle.cov_station.specs.Sources.{Source}
 
 -- the names of the enumerators of a program's types

@@ -35,7 +35,8 @@ pub(crate) fn answer<S: Store>(
     match job.verb {
         Verb::Run => run_command(alloc, store, first, second, job.width, job.main),
         Verb::Score => {
-            score_command(alloc, store, first, second, job.width, job.main, job.length)
+            let (width, main, length) = (job.width, job.main, job.length);
+            score_command(alloc, store, first, second, width, main, length, job.json)
         }
         Verb::Verify => verify_command(alloc, store, first, second),
         Verb::Session => unreachable!(),

@@ -4,12 +4,11 @@ ghost use Rattle.cov_station.specs.RunText.{RunText};
 ghost use Rattle.cov_station.specs.Sources.{Source};
 ghost use Rattle.cov_station.specs.Views.{IsNetworkOf};
 
-mod lines;
 mod network;
 mod playing;
+mod streams;
 #[cfg(test)]
 mod tests;
-mod values;
 
 use cov_base::{List, Memory};
 use lus_causality::Ordered;

@@ -8,13 +8,12 @@ use crate::refusal::Refusal;
 use cov_words::{Job, Verb, WordsFault, read_words};
 use std::alloc::Global;
 
-/// Whether a command is done with `--json`, or without.
-fn is_served(verb: Verb, json: bool) -> bool
-    ensures { result ≡ is_served verb json }
+/// Whether a command is done as yet.
+fn is_served(verb: Verb) -> bool
+    ensures { result ≡ is_served verb }
 {
     match verb {
-        Verb::Run | Verb::Verify => true,
-        Verb::Score => !json,
+        Verb::Run | Verb::Score | Verb::Verify => true,
         Verb::Session | Verb::Generate | Verb::Certify | Verb::Make => false,
     }
 }
@@ -22,12 +21,12 @@ fn is_served(verb: Verb, json: bool) -> bool
 /// The job that the arguments name, if it is done as yet.
 pub(crate) fn job_of<'a>(alloc: Global, args: &'a [String]) -> Result<Job<'a>, Refusal>
     ensures answer { Does (Asks (map string_bytes args.now)) IsJobOf result }
-    ensures served { IfOk result (λ job. is_served job.verb job.json ≡ true) }
+    ensures served { IfOk result (λ job. is_served job.verb ≡ true) }
     ensures ranges { IfOk result (λ job. IsInRange (asked job)) }
 {
     match read_words(alloc, args) {
         Ok(job) => {
-            if is_served(job.verb, job.json) {
+            if is_served(job.verb) {
                 Ok(job)
             } else {
                 Err(Refusal::Usage)

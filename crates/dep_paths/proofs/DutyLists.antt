@@ -1,17 +1,19 @@
 -- The obligations of one path more, and how many they are.
-use Rattle.std.proofs.Common.{◌≡◌, ℕ, ◌+◌, ◌<◌, ◌≤◌, Bool, true, false, if◌then◌else◌, List, [], ◌∷◌, ◌++◌, Option, Some, length, map, take, get_or, refl, ap, sym, ◌∙◌, arith, length-append, add-one}
-use Rattle.std.specs.List.{enumerate_from, flat_map}
+use Rattle.std.proofs.Common.{◌≡◌, ℕ, zero, suc, ◌+◌, ◌*◌, ◌<◌, ◌≤◌, Bool, true, false, if◌then◌else◌, List, [], ◌∷◌, ◌++◌, Option, Some, length, map, take, get_or, refl, ap, sym, ◌∙◌, arith, length-append, add-one}
+use Rattle.std.specs.List.{enumerate_from, flat_map, range_with_len}
 use Rattle.std.proofs.lemmas.List.{get_or-map, length-map, map-append}
 use Rattle.std.proofs.lemmas.List.FromFn.{length-map-range_with_len}
 use Rattle.std.proofs.lemmas.Simd.{map-map}
 use Rattle.op_network.specs.declared.edge.Edge.{Edge}
 use Rattle.op_network.specs.declared.edge.EdgeId.{EdgeId}
+use Rattle.dep_paths.specs.declared.path.Condition.{Condition}
 use Rattle.dep_paths.specs.declared.path.Obligation.{Obligation}
 use Rattle.dep_paths.specs.declared.path.Obligation.TheVariants.{Bc, Ecc, Mcc}
 use Rattle.dep_paths.specs.declared.path.Path.{Path}
 use Rattle.dep_paths.specs.declared.path.Pin.{Pin}
 use Rattle.dep_paths.specs.declared.path.Step.{Step}
-use Rattle.dep_paths.specs.Duties.{basic_coverage, duties, each_or_plain, edges_on, elementary_conditions, elementary_duties, is_truth_edge, multiple_conditions, multiple_duties, pin_at, pins_at, pins_on, truths_of}
+use Rattle.dep_paths.specs.Conditions.{conditions, is_truth_edge}
+use Rattle.dep_paths.specs.Duties.{basic_coverage, condition_duties, duties, each_or_plain, edges_on, elementary_conditions, elementary_duties, multiple_conditions, multiple_duties, observable_conditions, path_duties, pin_at, pins_at, pins_on, truths_of}
 use Rattle.dep_paths.proofs.Numbering.{length_take, numbered_more}
 
 -- ---- pins
@@ -73,8 +75,8 @@ length_elementary edges i j p = length-map (each_or_plain (truths_of edges p.sta
 pub length_multiple : (edges : List Edge) (i j : ℕ) (p : Path) → length (multiple_duties edges (i, p)) ≡ length (multiple_duties edges (j, p))
 length_multiple edges i j p = length-map (each_or_plain (pins_on edges p)) (Mcc i) ∙ sym (length-map (each_or_plain (pins_on edges p)) (Mcc j))
 
-length_duties : (edges : List Edge) (ps : List Path) → length (duties edges ps) ≡ length ps + length (elementary_conditions edges ps) + length (multiple_conditions edges ps)
-length_duties edges ps =
+length_path_duties : (edges : List Edge) (ps : List Path) → length (path_duties edges ps) ≡ length ps + length (elementary_conditions edges ps) + length (multiple_conditions edges ps)
+length_path_duties edges ps =
     length-append (basic_coverage ps ++ elementary_conditions edges ps) (multiple_conditions edges ps)
     ∙ ap (λ n. n + length (multiple_conditions edges ps)) (length-append (basic_coverage ps) (elementary_conditions edges ps)
     ∙ ap (λ n. n + length (elementary_conditions edges ps)) (length-map-range_with_len Bc 0 (length ps)))
@@ -82,17 +84,34 @@ length_duties edges ps =
 length_more : {X : Type 0} (f : ℕ × X → List Obligation) (xs : List X) (i : ℕ) (d : X) → i < length xs → length (flat_map f (enumerate_from 0 (take (i + 1) xs))) ≡ length (flat_map f (enumerate_from 0 (take i xs))) + length (f (i, get_or xs i d))
 length_more f xs i d h = ap length (numbered_more f xs i d h) ∙ length-append (flat_map f (enumerate_from 0 (take i xs))) (f (i, get_or xs i d))
 
-pub duties_more : (edges : List Edge) (ps : List Path) (i : ℕ) (d : Path) → i < length ps → length (duties edges (take (i + 1) ps)) ≡ length (duties edges (take i ps)) + (1 + (length (elementary_duties edges (0, get_or ps i d)) + length (multiple_duties edges (0, get_or ps i d))))
+pub duties_more : (edges : List Edge) (ps : List Path) (i : ℕ) (d : Path) → i < length ps → length (path_duties edges (take (i + 1) ps)) ≡ length (path_duties edges (take i ps)) + (1 + (length (elementary_duties edges (0, get_or ps i d)) + length (multiple_duties edges (0, get_or ps i d))))
 duties_more edges ps i d h =
     let p = get_or ps i d in
     omega (
       arith,
-      length_duties edges (take (i + 1) ps),
-      length_duties edges (take i ps),
+      length_path_duties edges (take (i + 1) ps),
+      length_path_duties edges (take i ps),
       length_take ps i (omega arith),
       length_take ps (i + 1) (omega arith),
       length_more (elementary_duties edges) ps i d h,
       length_more (multiple_duties edges) ps i d h,
       length_elementary edges i 0 p,
       length_multiple edges i 0 p,
+    )
+
+-- there are two for each condition
+pub length_observable : (count : ℕ) → length (observable_conditions count) ≡ 2 * count
+length_observable count = two 0 count
+  where
+    two : (first count : ℕ) → length (flat_map condition_duties (range_with_len first count)) ≡ 2 * count
+    two first zero = refl
+    two first (suc count) = omega (arith, two (first + 1) count)
+
+pub length_duties : (edges : List Edge) (paths : List Path) (found : List Condition) → found ≡ conditions edges → length (duties edges paths) ≡ length (path_duties edges paths) + 2 * length found
+length_duties edges paths found are =
+    omega (
+      arith,
+      ap (λ (l : List Condition). length l) are,
+      length-append (path_duties edges paths) (observable_conditions (length (conditions edges))),
+      length_observable (length (conditions edges)),
     )

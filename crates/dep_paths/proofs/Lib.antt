@@ -11,3 +11,7 @@ pub mod Numbering
 pub mod DutyLists
 pub mod Pinned
 pub mod FullCriteria
+pub mod ConditionLists
+pub mod Chains
+pub mod Prefix
+pub mod Fronts

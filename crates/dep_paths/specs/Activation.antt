@@ -1,6 +1,5 @@
--- When a path is activated (after Lakehal and Parissis), and what that means for obligations.
+-- When a path is activated (after Lakehal and Parissis), and with it what an obligation pins.
 use Rattle.std.specs.Prelude.{ℕ, zero, suc, Bool, true, false, not, ◌&&◌, ◌||◌, ◌==◌, cond, List, [], Option, Some, None, length, slice_get, slice_index_or, nat_le}
-use Rattle.std.specs.List.{list_any, range_with_len}
 use Rattle.std.specs.Option.{option_map_or}
 use Rattle.op_network.specs.declared.edge.Edge.{Edge}
 use Rattle.op_network.specs.declared.edge.EdgeId.{EdgeId}
@@ -67,14 +66,9 @@ abbrev pub first_pin : Option Bool → Option Pin
 first_pin None = None
 first_pin (Some value) = Some (record { place = 0; value = value })
 
--- An obligation on a path is met at t. One on a condition isn't met by activation: its criterion comes later.
-abbrev pub is_met : List Edge → List Path → Frames → Obligation → ℕ → Bool
-is_met edges paths frames (Bc path) t = is_activated edges paths frames path None t
-is_met edges paths frames (Ecc path value) t = is_activated edges paths frames path (first_pin value) t
-is_met edges paths frames (Mcc path pin) t = is_activated edges paths frames path pin t
-is_met edges paths frames (Omc condition value) t = false
-
--- The frames of a test cover an obligation on a path: it is met at an instant below the kept length, which is
--- at most the number of frames.
-abbrev pub covers : List Edge → List Path → Frames → ℕ → Obligation → Bool
-covers edges paths frames kept o = list_any (is_met edges paths frames o) (range_with_len 0 kept)
+-- The path of an obligation is active at t, with what it pins. One on a condition has no path.
+abbrev pub activates : List Edge → List Path → Frames → Obligation → ℕ → Bool
+activates edges paths frames (Bc path) t = is_activated edges paths frames path None t
+activates edges paths frames (Ecc path value) t = is_activated edges paths frames path (first_pin value) t
+activates edges paths frames (Mcc path pin) t = is_activated edges paths frames path pin t
+activates edges paths frames (Omc condition value) t = false

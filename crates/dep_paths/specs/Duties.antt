@@ -1,26 +1,19 @@
 -- What a plan asks of a suite.
 use Rattle.std.specs.Prelude.{◌≡◌, ◌<◌, ◌≤◌, ◌++◌, ℕ, Bool, true, false, if◌then◌else◌, List, []}
-use Rattle.std.specs.Prelude.{◌∷◌, Option, Some, None, map, length, slice_get}
+use Rattle.std.specs.Prelude.{◌∷◌, Option, Some, None, map, length}
 use Rattle.std.specs.List.{All, enumerate_from, flat_map, range_with_len}
-use Rattle.std.specs.Option.{option_map_or}
 use Rattle.op_network.specs.declared.edge.Edge.{Edge}
 use Rattle.op_network.specs.declared.edge.EdgeId.{EdgeId}
 use Rattle.op_network.specs.declared.edge.Parts.{Parts}
-use Rattle.op_network.specs.declared.value.Ty.TheVariants as type
-use Rattle.op_network.specs.Operators.{is_same_type}
 use Rattle.dep_paths.specs.declared.limits.TheConstants.{MOST_LENGTH, MOST_OBLIGATIONS, MOST_PATHS}
 use Rattle.dep_paths.specs.declared.path.Condition.{Condition}
 use Rattle.dep_paths.specs.declared.path.Obligation.{Obligation}
-use Rattle.dep_paths.specs.declared.path.Obligation.TheVariants.{Bc, Ecc, Mcc}
+use Rattle.dep_paths.specs.declared.path.Obligation.TheVariants.{Bc, Ecc, Mcc, Omc}
 use Rattle.dep_paths.specs.declared.path.Path.{Path}
 use Rattle.dep_paths.specs.declared.path.Pin.{Pin}
 use Rattle.dep_paths.specs.declared.path.Step.{Step}
+use Rattle.dep_paths.specs.Conditions.{conditions, is_truth_edge}
 use Rattle.dep_paths.specs.Paths.{IsListOf, path_length}
-
--- the edge is a Truth
-abbrev pub is_truth_edge : List Edge → EdgeId → Bool
-is_truth_edge edges e =
-    option_map_or (λ (edge : Edge). is_same_type edge.ty type.Truth) (slice_get edges e.0) false
 
 -- the truths that an edge is asked for: true and false of a Truth, and none of another edge
 abbrev pub truths_of : List Edge → EdgeId → List Bool
@@ -66,10 +59,22 @@ elementary_conditions edges paths = flat_map (elementary_duties edges) (enumerat
 abbrev pub multiple_conditions : List Edge → List Path → List Obligation
 multiple_conditions edges paths = flat_map (multiple_duties edges) (enumerate_from 0 paths)
 
+-- of the condition at a place: true and false
+abbrev pub condition_duties : ℕ → List Obligation
+condition_duties place = Omc place true ∷ Omc place false ∷ []
+
+-- observable conditions: so many conditions, by their places
+abbrev pub observable_conditions : ℕ → List Obligation
+observable_conditions count = flat_map condition_duties (range_with_len 0 count)
+
 -- the obligations on the paths of a network with these edges, criterion by criterion
-abbrev pub duties : List Edge → List Path → List Obligation
-duties edges paths =
+abbrev pub path_duties : List Edge → List Path → List Obligation
+path_duties edges paths =
     basic_coverage paths ++ elementary_conditions edges paths ++ multiple_conditions edges paths
+
+-- those on the paths, and then those on the conditions
+abbrev pub duties : List Edge → List Path → List Obligation
+duties edges paths = path_duties edges paths ++ observable_conditions (length (conditions edges))
 
 -- what a plan holds: the most edges of its paths, the paths, the conditions and the obligations
 pub record Planned : Type 0 where
@@ -86,13 +91,14 @@ pub record IsWithinLimits (plan : Planned) : Type 0 where
   pub few_paths : length plan.paths ≤ MOST_PATHS
   pub few_duties : length plan.duties ≤ MOST_OBLIGATIONS
 
--- The plan of a network: the list of its paths, no conditions as yet, and the obligations on these.
+-- The plan of a network: the list of its paths, the list of its conditions, and the obligations on
+-- these.
 pub record IsPlanOf (net : Parts) (plan : Planned) : Type 0 where
   pub listed : IsListOf net plan.length plan.paths
-  pub unconditional : plan.conditions ≡ []
+  pub conditional : plan.conditions ≡ conditions net.edges
   pub asked : plan.duties ≡ duties net.edges plan.paths
 
--- The paths are within their limit, and the obligations on them are not.
+-- The paths are within their limit, and the obligations are not.
 pub record AsksTooMuch (net : Parts) (n : ℕ) : Type 0 where
   pub paths : List Path
   pub listed : IsListOf net n paths

@@ -1,7 +1,10 @@
 pub mod Has
 pub mod Paths
+pub mod Conditions
 pub mod Duties
 pub mod Near
 pub mod Levels
 pub mod Activation
+pub mod Observed
+pub mod Coverage
 pub mod Criteria

@@ -1,11 +1,9 @@
-ghost use Rattle.std.specs.Prelude.{◌≡◌, ◌<◌, ℕ, Bool, List as Seq, length};
-ghost use Rattle.op_network.specs.declared.edge.Edge.{Edge};
+ghost use Rattle.std.specs.Prelude.{◌<◌, ◌≡◌, ℕ, List as Seq, length};
 ghost use Rattle.op_network.specs.declared.edge.Parts.{Parts};
 ghost use Rattle.dep_paths.specs.declared.path.Criterion.TheVariants as criterion;
-ghost use Rattle.dep_paths.specs.declared.path.Obligation.{Obligation};
 ghost use Rattle.dep_paths.specs.declared.path.Path.{Path};
-ghost use Rattle.dep_paths.specs.Criteria.{FollowsActivation, IsFull, KeptRun, is_covered_by};
-ghost use Rattle.dep_paths.specs.Duties.{duties};
+ghost use Rattle.dep_paths.specs.Criteria.{FullImplies, LaterFramesChangeNothing};
+ghost use Rattle.dep_paths.specs.Observed.{ReachIsPassedOn};
 ghost use Rattle.dep_paths.specs.Paths.{IsListOf, MoreThan};
 
 /// At most one list is that of a network.
@@ -26,19 +24,21 @@ pub fn list_is_longer()
         MoreThan count net n → count < length ps }
 {}
 
-/// Where the multiple conditions are all covered the elementary ones are, and where these are, the
-/// paths are: by any covering that goes by activation.
+/// Where runs cover all multiple conditions they cover all elementary ones, and where they cover
+/// these, all paths.
 pub fn criteria_imply()
-    ensures elementary { (edges : Seq Edge) (paths : Seq Path) (covered : Obligation → Bool) →
-        let all = duties edges paths in FollowsActivation edges paths covered →
-        IsFull covered criterion.Mcc all → IsFull covered criterion.Ecc all }
-    ensures basic { (edges : Seq Edge) (paths : Seq Path) (covered : Obligation → Bool) →
-        let all = duties edges paths in FollowsActivation edges paths covered →
-        IsFull covered criterion.Ecc all → IsFull covered criterion.Bc all }
+    ensures elementary { FullImplies criterion.Mcc criterion.Ecc }
+    ensures basic { FullImplies criterion.Ecc criterion.Bc }
 {}
 
-/// What some of a list of runs covers, each up to its kept length, goes by activation.
-pub fn runs_follow_activation()
-    ensures { (edges : Seq Edge) (paths : Seq Path) (runs : Seq KeptRun) →
-        FollowsActivation edges paths (is_covered_by edges paths runs) }
+/// Whether an obligation is met at an instant depends on the frames up to it alone.
+pub fn later_frames_change_nothing()
+    ensures { LaterFramesChangeNothing }
+{}
+
+/// A condition with a value reaches an edge exactly through a port of it that is unmasked: the port
+/// is the condition and its operand has the value, or the operand is reached; at the same instant,
+/// or through `Pre` at the instant before.
+pub fn reach_is_passed_on()
+    ensures { ReachIsPassedOn }
 {}

@@ -5,7 +5,8 @@ use crate::path::{Condition, Obligation, Path};
 use cov_base::List;
 use std::marker::Model;
 
-/// A plan: the paths of a network up to a length, and the obligations that a suite has to meet.
+/// A plan: the paths of a network up to a length, its conditions, and the obligations that a suite
+/// has to meet.
 #[derive(Debug, Drop)]
 pub struct Plan {
     length: u32,
@@ -73,7 +74,7 @@ impl Plan {
         self.paths.as_slice()
     }
 
-    /// The conditions. There are none as yet.
+    /// The conditions, by edge and port.
     pub fn conditions(&self) -> &[Condition]
         ensures { result.now ≡ self.now.conditions }
     {
@@ -82,8 +83,9 @@ impl Plan {
 
     /// The obligations, criterion by criterion: for basic coverage each path; for elementary
     /// conditions each path with true and then with false of its first edge; for multiple
-    /// conditions each path with true and then with false of each edge on it. Only a Truth is asked
-    /// for, and a path with none to ask for has one plain obligation instead.
+    /// conditions each path with true and then with false of each edge on it; for observable MC/DC
+    /// each condition with true and then with false. On a path only a Truth is asked for, and a path
+    /// with none to ask for has one plain obligation instead.
     pub fn duties(&self) -> &[Obligation]
         ensures { result.now ≡ self.now.duties }
     {

@@ -8,23 +8,39 @@ use std::alloc::Global;
 use std::process::Abort;
 use std::test::Fail;
 
-/// Adds an edge, named by its place.
-fn add_typed(alloc: Global, op: Op, ty: Ty, edges: &mut List<Edge>) -> Result<(), Fail> {
+/// Adds an edge of a type, which is called by its place, and tells whether it has a name of its own.
+fn add_edge(
+    alloc: Global,
+    op: Op,
+    ty: Ty,
+    named: bool,
+    edges: &mut List<Edge>,
+) -> Result<(), Fail> {
     let place = edges.len();
     let name = format!(in alloc; "v{place}")?;
     edges.push(Edge {
         op,
         ty,
         name: Text::from_bytes(alloc, name.as_bytes())?,
-        named: true,
+        named,
         asserted: false,
     })?;
     Ok(())
 }
 
-/// Adds an edge of type `Truth`, named by its place.
+/// Adds an edge with a name of its own.
+fn add_typed(alloc: Global, op: Op, ty: Ty, edges: &mut List<Edge>) -> Result<(), Fail> {
+    add_edge(alloc, op, ty, true, edges)
+}
+
+/// Adds an edge of type `Truth` with a name of its own.
 fn add(alloc: Global, op: Op, edges: &mut List<Edge>) -> Result<(), Fail> {
     add_typed(alloc, op, Ty::Truth, edges)
+}
+
+/// Adds an edge of type `Truth` without one.
+fn add_inner(alloc: Global, op: Op, edges: &mut List<Edge>) -> Result<(), Fail> {
+    add_edge(alloc, op, Ty::Truth, false, edges)
 }
 
 /// The parts of a network whose only input is its first edge.
@@ -48,10 +64,10 @@ fn example(alloc: Global) -> Result<Parts, Fail> {
     let mut edges = List::new(alloc);
     add(alloc, Op::Input(0), &mut edges)?;
     add(alloc, Op::Arrow(EdgeId(2), EdgeId(3)), &mut edges)?;
-    add(alloc, Op::Const(Value::Truth(false)), &mut edges)?;
-    add(alloc, Op::And(EdgeId(0), EdgeId(4)), &mut edges)?;
-    add(alloc, Op::Not(EdgeId(5)), &mut edges)?;
-    add(alloc, Op::Pre(EdgeId(0)), &mut edges)?;
+    add_inner(alloc, Op::Const(Value::Truth(false)), &mut edges)?;
+    add_inner(alloc, Op::And(EdgeId(0), EdgeId(4)), &mut edges)?;
+    add_inner(alloc, Op::Not(EdgeId(5)), &mut edges)?;
+    add_inner(alloc, Op::Pre(EdgeId(0)), &mut edges)?;
     parts_of(alloc, edges, 1)
 }
 
@@ -102,9 +118,15 @@ fn total(plan: &Plan, criterion: Criterion) -> usize {
         .count()
 }
 
-/// How many obligations a plan has of basic coverage, of elementary and of multiple conditions.
-fn totals(plan: &Plan) -> [usize; 3] {
-    [Criterion::Bc, Criterion::Ecc, Criterion::Mcc].map(|criterion| total(plan, criterion))
+/// How many obligations a plan has of each criterion.
+fn totals(plan: &Plan) -> [usize; 4] {
+    [
+        Criterion::Bc,
+        Criterion::Ecc,
+        Criterion::Mcc,
+        Criterion::Omcdc,
+    ]
+    .map(|criterion| total(plan, criterion))
 }
 
 /// How many complete paths there are of at most `n` edges, if not too many.
@@ -190,15 +212,19 @@ fn pin(path: u32, place: u8, value: bool) -> Obligation {
     Obligation::Mcc { path, pin }
 }
 
+fn observed(condition: u32, value: bool) -> Obligation {
+    Obligation::Omc { condition, value }
+}
+
 #[test]
 fn each_criterion_has_its_obligations(rt: HostRuntime) -> Result<(), Fail> {
     let alloc = rt.alloc();
     let long = plan_of(&rt, alloc, example(alloc)?, 5)?;
-    assert_eq!(rt; totals(&long), [2, 4, 16]);
+    assert_eq!(rt; totals(&long), [2, 4, 16, 6]);
     let short = plan_of(&rt, alloc, example(alloc)?, 3)?;
-    assert_eq!(rt; totals(&short), [1, 2, 6]);
+    assert_eq!(rt; totals(&short), [1, 2, 6, 6]);
     let twice = plan_of(&rt, alloc, doublings(alloc, 1)?, 2)?;
-    assert_eq!(rt; totals(&twice), [2, 4, 8]);
+    assert_eq!(rt; totals(&twice), [2, 4, 8, 4]);
     Ok(())
 }
 
@@ -222,6 +248,12 @@ fn obligations_stand_in_order(rt: HostRuntime) -> Result<(), Fail> {
         pin(0, 1, false),
         pin(0, 2, true),
         pin(0, 2, false),
+        observed(0, true),
+        observed(0, false),
+        observed(1, true),
+        observed(1, false),
+        observed(2, true),
+        observed(2, false),
     ];
     assert_eq!(rt; plan.duties(), duties.as_slice());
     Ok(())

@@ -1,11 +1,11 @@
 -- What is kept, after a test goes last or is taken out.
-use Rattle.std.proofs.Common.{◌≡◌, ◌≢◌, ℕ, suc, ◌+◌, ◌-◌, ◌<◌, ◌≤◌, Bool, true, false, cond, ◌||◌, List, [], ◌∷◌, ◌++◌, length, get_or, map, take, drop, refl, sym, ap, subst, ◌∙◌, arith, length-append, length-drop}
-use Rattle.std.specs.Prelude.{Option, Some, None, All, fold, replicate, nat_le, nat_lt, position, remove}
+use Rattle.std.proofs.Common.{◌≡◌, ◌≢◌, ℕ, suc, ◌+◌, ◌-◌, ◌<◌, ◌≤◌, Bool, true, false, cond, ◌||◌, List, [], ◌∷◌, ◌++◌, length, get_or, take, drop, refl, sym, ap, subst, ◌∙◌, arith, length-append, length-drop}
+use Rattle.std.specs.Prelude.{Some, None, All, replicate, nat_le, nat_lt, remove}
 use Rattle.std.specs.List.{AllPairs, AllZip}
 use Rattle.std.specs.Str.{bytes_eq}
 use Rattle.std.proofs.lemmas.Bool.{leb-false, ltb-false}
 use Rattle.std.proofs.lemmas.Cmp.{nat_list_eq_equiv}
-use Rattle.std.proofs.lemmas.List.{length-map, length-take}
+use Rattle.std.proofs.lemmas.List.{length-take}
 use Rattle.std.proofs.lemmas.List.Elements.{All-append, All-drop, All-push, All-take}
 use Rattle.std.proofs.lemmas.List.Quantifiers.{all_pairs_push, all_pairs_remove}
 use Rattle.std.proofs.lemmas.List.Sums.{fold_push, sum_by_push, sum_by-remove}
@@ -14,18 +14,16 @@ use Rattle.dep_paths.specs.Duties.{Planned}
 use Rattle.op_network.specs.declared.edge.Parts.{Parts}
 use Rattle.op_network.specs.declared.test.Test.{Test}
 use Rattle.op_network.specs.Valid.{FitsTest}
-use Rattle.score_table.specs.declared.fault.AddCause.{AddCause}
 use Rattle.score_table.specs.declared.fault.AddCause.TheVariants.{AlreadyKept, Full, Instants}
 use Rattle.score_table.specs.declared.kept.Kept.{Kept}
 use Rattle.score_table.specs.declared.limits.TheConstants.{MOST_INSTANTS, MOST_TESTS}
 use Rattle.score_table.specs.declared.row.TestRow.{TestRow}
 use Rattle.score_table.specs.Names.{holds}
-use Rattle.score_table.specs.Rows.{AreKept, IsRowOf, row_of, union_of}
-use Rattle.dep_paths.specs.Criteria.{KeptRun, is_covered_by}
-use Rattle.score_table.specs.Tables.{first_refusal, has_name, instants_of, is_kept}
-use Rattle.score_table.proofs.OneTestRun.{rows_less, rows_more, rows_wide, runs_of}
+use Rattle.score_table.specs.Rows.{AreKept, IsRowOf, union_of}
+use Rattle.score_table.specs.Tables.{first_refusal, instants_of, is_kept}
+use Rattle.score_table.proofs.OneTestRun.{rows_less, rows_more, rows_wide, runs_of, runs_wide}
 use Rattle.score_table.proofs.TestNames.{kept_more, names_left, none_named, taken_out}
-use Rattle.score_table.proofs.Unions.{union_is}
+use Rattle.score_table.proofs.Unions.{marks_of_long, union_is}
 
 -- a test for which there is no reason against keeping it
 pub record IsAccepted (tests : List Test) (test : Test) : Type 0 where
@@ -47,13 +45,11 @@ accepted tests test none = by (is_kept tests test.name) (nat_le MOST_TESTS (leng
 pub kept_wide : (parts : Parts) (plan : Planned) (kept : Kept) → AreKept parts plan kept → length kept.covered ≡ length plan.duties
 kept_wide parts plan kept h =
     let runs = runs_of parts plan kept.tests.items kept.rows.items h.rows in
-    ap length (h.covered ∙ ap (union_of (length plan.duties)) runs.2 ∙ union_is parts plan runs.0) ∙ length-map plan.duties (is_covered_by parts.edges plan.paths runs.0)
+    ap length (h.covered ∙ ap (union_of (length plan.duties)) runs.2 ∙ union_is plan runs.0 (runs_wide parts plan kept.tests.items runs.0 runs.1)) ∙ marks_of_long plan runs.0
 
 -- each row has one
 pub all_wide : (parts : Parts) (plan : Planned) (kept : Kept) → AreKept parts plan kept → All (λ (row : TestRow). length row.covered ≡ length plan.duties) kept.rows.items
-all_wide parts plan kept h =
-    let runs = runs_of parts plan kept.tests.items kept.rows.items h.rows in
-    subst (All (λ (row : TestRow). length row.covered ≡ length plan.duties)) (sym runs.2) (rows_wide parts plan runs.0)
+all_wide parts plan kept h = rows_wide parts plan kept.tests.items kept.rows.items h.rows
 
 -- equal texts are equal either way
 turned : (a b : List ℕ) → bytes_eq a b ≡ bytes_eq b a

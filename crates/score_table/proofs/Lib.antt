@@ -2,7 +2,7 @@ pub mod NameSets
 pub mod TestNames
 pub mod Unions
 pub mod OneTestRun
-pub mod Fronts
+pub mod Marks
 pub mod Tested
 pub mod KeptTests
 pub mod Scoring

@@ -1,28 +1,13 @@
 -- Scores, from the obligations with their bits.
-use Rattle.std.proofs.Common.{◌≡◌, ℕ, ◌+◌, ◌<◌, ◌≤◌, Bool, true, false, ◌&&◌, cond, List, [], ◌∷◌, length, get_or, map, take, refl, sym, ap, ap₂, subst, ◌∙◌, zero-add, arith}
-use Rattle.std.specs.Prelude.{count_by, filter, zip}
+use Rattle.std.proofs.Common.{◌≡◌, ℕ, ◌+◌, ◌<◌, ◌≤◌, Bool, true, false, ◌&&◌, cond, List, length, get_or, take, refl, sym, ap, ap₂, subst, ◌∙◌, arith}
+use Rattle.std.specs.Prelude.{count_by, zip}
 use Rattle.std.proofs.lemmas.List.{take_all, take_more}
-use Rattle.std.proofs.lemmas.List.Sums.{length-filter, sum_by-cons, sum_by_push}
+use Rattle.std.proofs.lemmas.List.Sums.{sum_by_push}
 use Rattle.std.proofs.lemmas.Slice.Zip.{get_or-zip, length-zip}
 use Rattle.dep_paths.specs.declared.path.Criterion.{Criterion}
 use Rattle.dep_paths.specs.declared.path.Obligation.{Obligation}
 use Rattle.dep_paths.specs.declared.path.Score.{Score}
-use Rattle.dep_paths.specs.Duties.{Planned}
-use Rattle.op_network.specs.declared.edge.Parts.{Parts}
-use Rattle.score_table.specs.Coverage.{is_of, score_of}
-use Rattle.dep_paths.specs.Criteria.{KeptRun, is_covered_by}
-
--- of the items that one test passes, those that another one does
-pub count_chosen : {X : Type 0} (p f : X → Bool) (xs : List X) → count_by (λ (pair : X × Bool). p pair.0 && pair.1) (zip xs (map f xs)) ≡ count_by f (filter p xs)
-count_chosen p f [] = refl
-count_chosen {X} p f (x ∷ xs) =
-    sum_by-cons (λ (pair : X × Bool). cond (p pair.0 && pair.1) 1 0) (x, f x) (zip xs (map f xs))
-    ∙ ap (λ n. cond (p x && f x) 1 0 + n) (count_chosen p f xs)
-    ∙ by (p x)
-  where
-    by : (b : Bool) → cond (b && f x) 1 0 + count_by f (filter p xs) ≡ count_by f (cond b (x ∷ filter p xs) (filter p xs))
-    by true = sym (sum_by-cons (λ y. cond (f y) 1 0) x (filter p xs))
-    by false = zero-add (count_by f (filter p xs))
+use Rattle.score_table.specs.Coverage.{is_covered_of, is_of}
 
 -- one item more
 pub count_more : {X : Type 0} (p : X → Bool) (xs : List X) (i n : ℕ) (d : X) → i < length xs → n ≡ count_by p (take i xs) → n + cond (p (get_or xs i d)) 1 0 ≡ count_by p (take (i + 1) xs)
@@ -37,7 +22,7 @@ pub record IsScoredBelow (criterion : Criterion) (duties : List Obligation) (cov
   pub few : score.total ≤ i
   pub fewer : score.covered ≤ i
   pub total_is : score.total ≡ count_by (is_of criterion) (take i duties)
-  pub covered_is : score.covered ≡ count_by (λ (p : Obligation × Bool). is_of criterion p.0 && p.1) (take i (zip duties covered))
+  pub covered_is : score.covered ≡ count_by (is_covered_of criterion) (take i (zip duties covered))
 
 pub scored_none : (criterion : Criterion) (duties : List Obligation) (covered : List Bool) → IsScoredBelow criterion duties covered 0 (record { covered = 0; total = 0 })
 scored_none criterion duties covered = record { few = omega arith; fewer = omega arith; total_is = refl; covered_is = refl }
@@ -49,29 +34,20 @@ pub scored_more : (criterion : Criterion) (duties : List Obligation) (covered : 
 scored_more criterion duties covered i old new d asked bit lt size is at total count h =
     let one = total ∙ ap (λ b. old.total + cond b 1 0) is in
     let pair = get_or-zip duties covered i (d, false) lt (omega (arith, lt, size)) in
-    let both = count ∙ ap₂ (λ a b. old.covered + cond (a && b) 1 0) is at ∙ ap (λ (p : Obligation × Bool). old.covered + cond (is_of criterion p.0 && p.1) 1 0) (sym pair) in
+    let both = count ∙ ap₂ (λ a b. old.covered + cond (a && b) 1 0) is at ∙ ap (λ (p : Obligation × Bool). old.covered + cond (is_covered_of criterion p) 1 0) (sym pair) in
     let long = length-zip duties covered in
     record {
       few = subst (λ n. n ≤ i + 1) (sym total) (chosen_less asked old.total i h.few);
       fewer = subst (λ n. n ≤ i + 1) (sym count) (chosen_less (asked && bit) old.covered i h.fewer);
       total_is = one ∙ count_more (is_of criterion) duties i old.total d lt h.total_is;
-      covered_is = both ∙ count_more (λ (p : Obligation × Bool). is_of criterion p.0 && p.1) (zip duties covered) i old.covered (d, false) (omega (arith, lt, size, long)) h.covered_is;
+      covered_is = both ∙ count_more (is_covered_of criterion) (zip duties covered) i old.covered (d, false) (omega (arith, lt, size, long)) h.covered_is;
     }
 
 -- all obligations are scored
 pub scored_all : (criterion : Criterion) (duties : List Obligation) (covered : List Bool) (i : ℕ) (score : Score) → length duties ≤ i → length covered ≡ length duties → IsScoredBelow criterion duties covered i score
-    → (score.total ≡ count_by (is_of criterion) duties) × (score.covered ≡ count_by (λ (p : Obligation × Bool). is_of criterion p.0 && p.1) (zip duties covered))
+    → (score.total ≡ count_by (is_of criterion) duties) × (score.covered ≡ count_by (is_covered_of criterion) (zip duties covered))
 scored_all criterion duties covered i score full size h =
     let long = length-zip duties covered in (
       h.total_is ∙ ap (count_by (is_of criterion)) (take_all i duties full),
-      h.covered_is ∙ ap (count_by (λ (p : Obligation × Bool). is_of criterion p.0 && p.1)) (take_all i (zip duties covered) (omega (arith, full, size, long))),
+      h.covered_is ∙ ap (count_by (is_covered_of criterion)) (take_all i (zip duties covered) (omega (arith, full, size, long))),
     )
-
--- the score of the runs
-pub score_is : (parts : Parts) (plan : Planned) (runs : List KeptRun) (criterion : Criterion) (covered : List Bool) (score : Score) → covered ≡ map (is_covered_by parts.edges plan.paths runs) plan.duties
-    → score.total ≡ count_by (is_of criterion) plan.duties → score.covered ≡ count_by (λ (p : Obligation × Bool). is_of criterion p.0 && p.1) (zip plan.duties covered)
-    → score ≡ score_of parts plan runs criterion
-score_is parts plan runs criterion covered score is total count =
-    ap₂ (λ m n. let s : Score = record { covered = m; total = n } in s)
-    (count ∙ ap (λ l. count_by (λ (p : Obligation × Bool). is_of criterion p.0 && p.1) (zip plan.duties l)) is ∙ count_chosen (is_of criterion) (is_covered_by parts.edges plan.paths runs) plan.duties)
-    (total ∙ sym (length-filter (is_of criterion) plan.duties))

@@ -1,17 +1,14 @@
 -- A test's run, instant by instant.
-use Rattle.std.proofs.Common.{◌≡◌, ◌≢◌, ℕ, zero, suc, ◌+◌, ◌-◌, ◌*◌, ◌<◌, ◌≤◌, Bool, true, false, ◌||◌, List, [], ◌∷◌, ◌++◌, length, get_or, map, take, drop, refl, sym, ap, ap₂, ◌∙◌, subst, arith, add-one, length-drop}
+use Rattle.std.proofs.Common.{◌≡◌, ◌≢◌, ◌⊎◌, ◌↔◌, ℕ, zero, suc, ◌+◌, ◌-◌, ◌*◌, ◌<◌, Bool, false, List, [], ◌∷◌, ◌++◌, length, get_or, take, drop, refl, sym, ap, ap₂, ◌∙◌, subst, arith, add-one, length-drop}
 use Rattle.std.proofs.Math.Nat.{suc-mul}
-use Rattle.std.specs.Prelude.{Option, Some, None, replicate, slice_get}
-use Rattle.std.specs.List.{All, list_any, range_with_len}
-use Rattle.std.specs.Option.{option_map_or}
-use Rattle.std.proofs.lemmas.List.{get_or_default, length-map, length-take-le, same_lists, take_more}
+use Rattle.std.specs.Prelude.{IsTrue, Option, Some, None, replicate, slice_get}
+use Rattle.std.specs.List.{All}
+use Rattle.std.proofs.lemmas.List.{length-take-le, take_more}
 use Rattle.std.proofs.lemmas.List.Elements.{All-nil, All-push}
-use Rattle.std.proofs.lemmas.List.Recursion.{or_push}
 use Rattle.std.proofs.lemmas.Option.{get_or_from_slice_get, slice_get_within}
-use Rattle.dep_paths.specs.declared.path.Obligation.{Obligation}
-use Rattle.dep_paths.specs.Activation.{Frames, covers, is_met}
+use Rattle.dep_paths.specs.Activation.{Frames}
+use Rattle.dep_paths.specs.Coverage.{Met}
 use Rattle.dep_paths.specs.Duties.{Planned}
-use Rattle.dep_paths.proofs.Growth.{range_more}
 use Rattle.lus_causality.specs.Causality.{HasNoCycle}
 use Rattle.lus_causality.proofs.Frames.{found_at}
 use Rattle.lus_causality.proofs.Runs.{one_run, run_of_front, some_run}
@@ -24,13 +21,11 @@ use Rattle.op_network.specs.Run.{IsRun, IsRunAfter, rows}
 use Rattle.op_network.specs.Valid.{IsValid}
 use Rattle.stream_run.specs.Runs.{Extends, Running, StandsFor, last_after}
 use Rattle.stream_run.proofs.Keeping.{kept_by_asserts}
-use Rattle.score_table.specs.declared.row.TestRow.{TestRow}
 use Rattle.score_table.specs.declared.watch.Watch.{Watch}
-use Rattle.score_table.specs.Rows.{IsRowOf, marks_of}
-use Rattle.score_table.specs.Runs.{test_rows}
-use Rattle.score_table.specs.Watching.{Watches, is_met_last}
-use Rattle.score_table.proofs.Fronts.{met_by_front}
-use Rattle.score_table.proofs.Unions.{bit_at, no_bits}
+use Rattle.score_table.specs.Rows.{IsRowOf}
+use Rattle.score_table.specs.Runs.{AreMarks, test_rows}
+use Rattle.score_table.specs.Watching.{MarksLast, Watches}
+use Rattle.score_table.proofs.Marks.{marks_long, marks_more, no_marks, up_to}
 
 -- the first t instants are done: all assertions held, and what they meet is marked
 pub record Tested (parts : Parts) (plan : Planned) (test : Test) (t : ℕ) (runner : Running) (rest : List Value) (watch : Watch) (covered : List Bool) : Type 0 where
@@ -43,8 +38,7 @@ pub record Tested (parts : Parts) (plan : Planned) (test : Test) (t : ℕ) (runn
   pub room : length rest ≡ (test.instants - t) * length parts.inputs
   pub hold : All (AssertsHold parts) (take t frames)
   pub seen : Watches parts plan (take t frames) watch
-  pub marked : covered ≡ marks_of parts plan frames t
-  pub wide : length covered ≡ length plan.duties
+  pub marked : AreMarks parts plan (up_to frames t) covered
 
 rows_length : (width n : ℕ) (values : List Value) → length (rows width n values) ≡ n
 rows_length width zero values = refl
@@ -75,8 +69,7 @@ tested_none parts plan test runner rest watch covered valid acyclic stands size 
       room = ap length whole ∙ room ∙ ap (λ n. n * length parts.inputs) (let e : test.instants ≡ test.instants - 0 = omega arith in e);
       hold = All-nil (AssertsHold parts);
       seen = seen;
-      marked = empty ∙ no_bits plan.duties;
-      wide = ap length (empty ∙ no_bits plan.duties) ∙ length-map plan.duties (λ (duty : Obligation). false);
+      marked = subst (AreMarks parts plan (up_to some.0 0)) (sym empty) (no_marks parts plan some.0);
     }
 
 -- what stands at a place of a list, from the rest of the list there
@@ -148,7 +141,7 @@ pub tested_stopped : (parts : Parts) (plan : Planned) (test : Test) (t : ℕ) (r
 tested_stopped parts plan test t runner runner' rest inputs watch covered valid acyclic lt front h more fails =
     let next = frame_more parts plan test t runner runner' rest inputs watch covered valid acyclic lt front h more in
     record {
-      run = record { frames = h.frames; kept = t };
+      run = record { frames = h.frames; kept = t; covered = covered };
       ran = record {
         ran = h.run;
         kept = kept_by_asserts parts (test_rows parts test) h.frames t valid acyclic h.run (record {
@@ -156,8 +149,9 @@ tested_stopped parts plan test t runner runner' rest inputs watch covered valid 
           hold = h.hold;
           fail = λ frame at asserts. fails (subst (AssertsHold parts) (let e : frame ≡ runner'.frame = cc in e) asserts);
         });
+        marks = h.marked;
       };
-      is = ap (λ (bits : List Bool). let row : TestRow = record { covered = bits; kept = t } in row) h.marked;
+      is = refl;
     }
 
 -- all instants are done
@@ -166,7 +160,7 @@ pub tested_whole : (parts : Parts) (plan : Planned) (test : Test) (t : ℕ) (run
 tested_whole parts plan test t runner rest watch covered valid acyclic whole h =
     let count = frame_count parts test h.frames h.run in
     subst (λ n. IsRowOf parts plan test (record { covered = covered; kept = n })) whole (record {
-      run = record { frames = h.frames; kept = t };
+      run = record { frames = h.frames; kept = t; covered = covered };
       ran = record {
         ran = h.run;
         kept = kept_by_asserts parts (test_rows parts test) h.frames t valid acyclic h.run (record {
@@ -174,43 +168,24 @@ tested_whole parts plan test t runner rest watch covered valid acyclic whole h =
           hold = h.hold;
           fail = λ frame at asserts. let lt = slice_get_within h.frames t frame at in absurd (omega (arith, lt, count, whole));
         });
+        marks = h.marked;
       };
-      is = ap (λ (bits : List Bool). let row : TestRow = record { covered = bits; kept = t } in row) h.marked;
+      is = refl;
     })
 
 -- the frames up to the next instant
 next_is : (frames : Frames) (t : ℕ) (frame : List Value) → slice_get frames t ≡ Some frame → take (t + 1) frames ≡ take t frames ++ frame ∷ []
 next_is frames t frame is = take_more frames t frame (slice_get_within frames t frame is) ∙ ap (λ (f : List Value). take t frames ++ f ∷ []) (get_or_from_slice_get frames t frame frame is)
 
--- one instant more covers what it meets
-covers_more : (parts : Parts) (plan : Planned) (frames : Frames) (t : ℕ) (duty : Obligation) → t < length frames
-    → (covers parts.edges plan.paths frames t duty || is_met parts.edges plan.paths (take (t + 1) frames) duty (length (take (t + 1) frames) - 1)) ≡ covers parts.edges plan.paths frames (t + 1) duty
-covers_more parts plan frames t duty lt =
-    let met : ℕ → Bool = is_met parts.edges plan.paths frames duty in
+-- the marks of the next instant, of which the frames up to it tell
+marked_more : (parts : Parts) (plan : Planned) (frames : Frames) (t : ℕ) (covered covered' : List Bool) → t < length frames → AreMarks parts plan (up_to frames t) covered → length covered' ≡ length plan.duties
+    → ((k : ℕ) → MarksLast parts plan (take (t + 1) frames) k (get_or covered k false) (get_or covered' k false))
+    → AreMarks parts plan (up_to frames (t + 1)) covered'
+marked_more parts plan frames t covered covered' lt marked wide each =
     let size = length-take-le (t + 1) frames (omega (arith, lt)) in
     let last : length (take (t + 1) frames) - 1 ≡ t = omega (arith, size) in
-    ap (λ b. covers parts.edges plan.paths frames t duty || b) (ap (is_met parts.edges plan.paths (take (t + 1) frames) duty) last ∙ met_by_front parts.edges plan.paths frames duty (t + 1) t (omega arith))
-    ∙ sym (ap (list_any met) (range_more t) ∙ or_push (list_any met) met refl (λ x xs. refl) (range_with_len 0 t) t)
-
--- the marks after one instant more
-marks_more : (parts : Parts) (plan : Planned) (frames : Frames) (t : ℕ) (covered covered' : List Bool) → t < length frames → covered ≡ marks_of parts plan frames t → length covered' ≡ length plan.duties
-    → ((k : ℕ) → k < length plan.duties → get_or covered' k false ≡ (get_or covered k false || is_met_last parts plan (take (t + 1) frames) k))
-    → covered' ≡ marks_of parts plan frames (t + 1)
-marks_more parts plan frames t covered covered' lt marked wide each =
-    same_lists covered' (marks_of parts plan frames (t + 1)) (wide ∙ sym (length-map plan.duties (covers parts.edges plan.paths frames (t + 1))))
-    (λ k d less. get_or_default covered' k d false less ∙ bit k (subst (λ n. k < n) wide less) ∙ get_or_default (marks_of parts plan frames (t + 1)) k false d (subst (λ n. k < n) (wide ∙ sym (length-map plan.duties (covers parts.edges plan.paths frames (t + 1)))) less))
-  where
-    by : (found : Option Obligation)
-        → (option_map_or (covers parts.edges plan.paths frames t) found false || option_map_or (λ duty. is_met parts.edges plan.paths (take (t + 1) frames) duty (length (take (t + 1) frames) - 1)) found false) ≡ option_map_or (covers parts.edges plan.paths frames (t + 1)) found false
-    by None = refl
-    by (Some duty) = covers_more parts plan frames t duty lt
-
-    bit : (k : ℕ) → k < length plan.duties → get_or covered' k false ≡ get_or (marks_of parts plan frames (t + 1)) k false
-    bit k less =
-        each k less
-        ∙ ap (λ b. b || is_met_last parts plan (take (t + 1) frames) k) (ap (λ (l : List Bool). get_or l k false) marked ∙ bit_at (covers parts.edges plan.paths frames t) plan.duties k)
-        ∙ by (slice_get plan.duties k)
-        ∙ sym (bit_at (covers parts.edges plan.paths frames (t + 1)) plan.duties k)
+    marks_more parts plan frames t covered covered' marked wide (λ k duty there.
+    subst (λ u. IsTrue (get_or covered' k false) ↔ (IsTrue (get_or covered k false) ⊎ Met parts plan (take (t + 1) frames) duty u)) last (each k duty there))
 
 -- one instant more, at which all assertions hold
 pub tested_more : (parts : Parts) (plan : Planned) (test : Test) (t : ℕ) (runner runner' : Running) (rest rest' inputs : List Value) (watch watch' : Watch) (covered covered' : List Bool) → IsValid parts → HasNoCycle parts.edges
@@ -218,7 +193,7 @@ pub tested_more : (parts : Parts) (plan : Planned) (test : Test) (t : ℕ) (runn
     → Tested parts plan test t runner rest watch covered → Extends (StandsFor parts) inputs runner runner' → runner'.instant ≡ runner.instant + 1 → length runner'.frame ≡ length parts.edges → AssertsHold parts runner'.frame
     → ((frames : Frames) → Watches parts plan frames watch → Watches parts plan (frames ++ runner'.frame ∷ []) watch')
     → length covered' ≡ length plan.duties
-    → ((frames : Frames) → Watches parts plan frames watch' → frames ≢ [] → (k : ℕ) → k < length plan.duties → get_or covered' k false ≡ (get_or covered k false || is_met_last parts plan frames k))
+    → ((frames : Frames) → Watches parts plan frames watch' → frames ≢ [] → (k : ℕ) → MarksLast parts plan frames k (get_or covered k false) (get_or covered' k false))
     → Tested parts plan test (t + 1) runner' rest' watch' covered'
 tested_more parts plan test t runner runner' rest rest' inputs watch watch' covered covered' valid acyclic lt front back h more instant size asserts steps wide marked =
     let next = frame_more parts plan test t runner runner' rest inputs watch covered valid acyclic lt front h more in
@@ -236,6 +211,9 @@ tested_more parts plan test t runner runner' rest rest' inputs watch watch' cove
       room = room_more (length parts.inputs) test.instants t rest rest' lt back h.room;
       hold = subst (All (AssertsHold parts)) (sym (next_is h.frames t runner'.frame next)) (All-push (AssertsHold parts) (take t h.frames) runner'.frame h.hold asserts);
       seen = seen;
-      marked = marks_more parts plan h.frames t covered covered' within h.marked wide (marked (take (t + 1) h.frames) seen (λ none. let empty = ap length none in absurd (omega (arith, empty, long))));
-      wide = wide;
+      marked = marked_more parts plan h.frames t covered covered' within h.marked wide (marked (take (t + 1) h.frames) seen (λ none. let empty = ap length none in absurd (omega (arith, empty, long))));
     }
+
+-- there are marks for all obligations
+pub tested_wide : (parts : Parts) (plan : Planned) (test : Test) (t : ℕ) (runner : Running) (rest : List Value) (watch : Watch) (covered : List Bool) → Tested parts plan test t runner rest watch covered → length covered ≡ length plan.duties
+tested_wide parts plan test t runner rest watch covered h = marks_long parts plan (up_to h.frames t) covered h.marked

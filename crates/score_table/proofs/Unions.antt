@@ -1,25 +1,25 @@
 -- What rows cover together.
-use Rattle.std.proofs.Common.{◌≡◌, ℕ, zero, suc, ◌+◌, ◌<◌, Bool, true, false, ◌||◌, List, [], ◌∷◌, ◌++◌, length, get_or, map, take, refl, sym, ap, ap₂, ◌∙◌, arith}
-use Rattle.std.specs.Prelude.{Option, Some, None, cond, fold, replicate, position, slice_get, nat_lt, not}
-use Rattle.std.specs.List.{list_any, position_or_len, prefix_len}
-use Rattle.std.specs.Option.{option_map_or}
+use Rattle.std.proofs.Common.{◌≡◌, ℕ, suc, ◌+◌, ◌<◌, ◌≤◌, Bool, true, false, ◌||◌, List, [], ◌∷◌, ◌++◌, length, get_or, map, take, refl, sym, ap, ap₂, ◌∙◌, zero-add, arith}
+use Rattle.std.specs.Prelude.{All, Some, None, cond, fold, replicate, position, nat_lt, not}
+use Rattle.std.specs.List.{position_or_len, prefix_len, range_with_len}
 use Rattle.std.proofs.lemmas.Bool.{cond-false, cond-true, le-ltb, lt-ltb}
-use Rattle.std.proofs.lemmas.List.{length-map, take_more}
+use Rattle.std.proofs.lemmas.List.{get_or_past, length-map, take_more}
+use Rattle.std.proofs.lemmas.List.Elements.{All-head, All-tail}
+use Rattle.std.proofs.lemmas.List.Folds.{list_any_none}
+use Rattle.std.proofs.lemmas.List.FromFn.{fill_by_all, get_or-map-range_with_len, length-map-range_with_len, length-range_with_len}
 use Rattle.std.proofs.lemmas.List.Sums.{fold_push, position_or_len_is}
 use Rattle.cov_base.specs.BitRow.{either}
-use Rattle.dep_paths.specs.declared.path.Obligation.{Obligation}
 use Rattle.dep_paths.specs.Duties.{Planned}
-use Rattle.op_network.specs.declared.edge.Parts.{Parts}
 use Rattle.score_table.specs.declared.row.TestRow.{TestRow}
-use Rattle.score_table.specs.Coverage.{covers_at, covers_in, first_covering, is_covered_at}
+use Rattle.score_table.specs.Coverage.{covers_at, first_covering, is_covered_at, marks_of}
 use Rattle.score_table.specs.Rows.{row_of, union_of}
-use Rattle.dep_paths.specs.Criteria.{KeptRun, is_covered_by}
+use Rattle.score_table.specs.Runs.{TestRun}
 
-pub map_same : {X Y : Type 0} (f g : X → Y) (xs : List X) → ((x : X) → f x ≡ g x) → map f xs ≡ map g xs
+map_same : {X Y : Type 0} (f g : X → Y) (xs : List X) → ((x : X) → f x ≡ g x) → map f xs ≡ map g xs
 map_same f g [] same = refl
 map_same f g (x ∷ xs) same = ap₂ (λ y l. y ∷ l) (same x) (map_same f g xs same)
 
-pub either_map : {X : Type 0} (f g : X → Bool) (xs : List X) → either (map f xs) (map g xs) ≡ map (λ x. f x || g x) xs
+either_map : {X : Type 0} (f g : X → Bool) (xs : List X) → either (map f xs) (map g xs) ≡ map (λ x. f x || g x) xs
 either_map f g [] = refl
 either_map f g (x ∷ xs) = ap (λ l. (f x || g x) ∷ l) (either_map f g xs)
 
@@ -31,43 +31,49 @@ or_assoc : (a b c : Bool) → ((a || b) || c) ≡ (a || (b || c))
 or_assoc true b c = refl
 or_assoc false b c = refl
 
-pub no_bits : {X : Type 0} (xs : List X) → replicate (length xs) false ≡ map (λ (x : X). false) xs
+no_bits : {X : Type 0} (xs : List X) → replicate (length xs) false ≡ map (λ (x : X). false) xs
 no_bits [] = refl
 no_bits (x ∷ xs) = ap (λ l. false ∷ l) (no_bits xs)
 
+-- a list, from its items
+bits_are : (bits : List Bool) (n : ℕ) → length bits ≡ n → bits ≡ map (λ o. get_or bits o false) (range_with_len 0 n)
+bits_are bits n long = fill_by_all (λ o. get_or bits o false) bits n false long (λ k lt. refl)
+
+abbrev pub AreWide : ℕ → List TestRun → Type 0
+AreWide n runs = All (λ (run : TestRun). length run.covered ≡ n) runs
+
 -- some bits, and those of the rows
-union_from : (parts : Parts) (plan : Planned) (f : Obligation → Bool) (runs : List KeptRun)
-    → fold (λ bits (row : TestRow). either bits row.covered) (map f plan.duties) (map (row_of parts plan) runs) ≡ map (λ duty. f duty || is_covered_by parts.edges plan.paths runs duty) plan.duties
-union_from parts plan f [] = map_same f (λ duty. f duty || false) plan.duties (λ duty. or_false (f duty))
-union_from parts plan f (run ∷ runs) =
-    let by : Obligation → Bool = λ duty. covers_in parts plan.paths duty run in
-    ap (λ bits. fold (λ bits (row : TestRow). either bits row.covered) bits (map (row_of parts plan) runs)) (either_map f by plan.duties)
-    ∙ union_from parts plan (λ duty. f duty || by duty) runs
-    ∙ map_same (λ duty. (f duty || by duty) || is_covered_by parts.edges plan.paths runs duty) (λ duty. f duty || is_covered_by parts.edges plan.paths (run ∷ runs) duty) plan.duties (λ duty. or_assoc (f duty) (by duty) (is_covered_by parts.edges plan.paths runs duty))
+union_from : (n : ℕ) (f : ℕ → Bool) (runs : List TestRun) → AreWide n runs
+    → fold (λ bits (row : TestRow). either bits row.covered) (map f (range_with_len 0 n)) (map row_of runs) ≡ map (λ o. f o || is_covered_at runs o) (range_with_len 0 n)
+union_from n f [] wide = map_same f (λ o. f o || false) (range_with_len 0 n) (λ o. or_false (f o))
+union_from n f (run ∷ runs) wide =
+    let here : ℕ → Bool = λ o. covers_at o run in
+    let places = range_with_len 0 n in
+    let long = All-head (λ (run : TestRun). length run.covered ≡ n) run runs wide in
+    let rest = All-tail (λ (run : TestRun). length run.covered ≡ n) run runs wide in
+    ap (λ bits. fold (λ bits (row : TestRow). either bits row.covered) bits (map row_of runs)) (ap (either (map f places)) (bits_are run.covered n long) ∙ either_map f here places)
+    ∙ union_from n (λ o. f o || here o) runs rest
+    ∙ map_same (λ o. (f o || here o) || is_covered_at runs o) (λ o. f o || is_covered_at (run ∷ runs) o) places (λ o. or_assoc (f o) (here o) (is_covered_at runs o))
 
-pub union_is : (parts : Parts) (plan : Planned) (runs : List KeptRun) → union_of (length plan.duties) (map (row_of parts plan) runs) ≡ map (is_covered_by parts.edges plan.paths runs) plan.duties
-union_is parts plan runs =
-    ap (λ bits. fold (λ bits (row : TestRow). either bits row.covered) bits (map (row_of parts plan) runs)) (no_bits plan.duties)
-    ∙ union_from parts plan (λ duty. false) runs
+pub union_is : (plan : Planned) (runs : List TestRun) → AreWide (length plan.duties) runs → union_of (length plan.duties) (map row_of runs) ≡ marks_of plan runs
+union_is plan runs wide =
+    let n = length plan.duties in
+    ap (λ bits. fold (λ bits (row : TestRow). either bits row.covered) bits (map row_of runs)) (ap (λ m. replicate m false) (sym (length-range_with_len 0 n)) ∙ no_bits (range_with_len 0 n))
+    ∙ union_from n (λ o. false) runs wide
 
--- a bit for each item, at a place
-pub bit_at : {X : Type 0} (f : X → Bool) (xs : List X) (i : ℕ) → get_or (map f xs) i false ≡ option_map_or f (slice_get xs i) false
-bit_at f [] zero = refl
-bit_at f [] (suc i) = refl
-bit_at f (x ∷ xs) zero = refl
-bit_at f (x ∷ xs) (suc i) = bit_at f xs i
-
-none_covers : (runs : List KeptRun) → false ≡ list_any (λ (run : KeptRun). false) runs
-none_covers [] = refl
-none_covers (run ∷ runs) = none_covers runs
+pub marks_of_long : (plan : Planned) (runs : List TestRun) → length (marks_of plan runs) ≡ length plan.duties
+marks_of_long plan runs = length-map-range_with_len (is_covered_at runs) 0 (length plan.duties)
 
 -- the bit of what the rows cover together
-pub covered_is : (parts : Parts) (plan : Planned) (runs : List KeptRun) (o : ℕ) → get_or (map (is_covered_by parts.edges plan.paths runs) plan.duties) o false ≡ is_covered_at parts plan runs o
-covered_is parts plan runs o = bit_at (is_covered_by parts.edges plan.paths runs) plan.duties o ∙ by (slice_get plan.duties o)
-  where
-    by : (found : Option Obligation) → option_map_or (is_covered_by parts.edges plan.paths runs) found false ≡ list_any (λ (run : KeptRun). option_map_or (λ duty. covers_in parts plan.paths duty run) found false) runs
-    by None = none_covers runs
-    by (Some duty) = refl
+pub covered_is : (plan : Planned) (runs : List TestRun) (o : ℕ) → o < length plan.duties → get_or (marks_of plan runs) o false ≡ is_covered_at runs o
+covered_is plan runs o lt = get_or-map-range_with_len (is_covered_at runs) 0 (length plan.duties) o o false lt (zero-add o)
+
+-- no run covers what its marks lack
+past_none : (n o : ℕ) (runs : List TestRun) (k : ℕ) (d : TestRun) → AreWide n runs → n ≤ o → k < length runs → covers_at o (get_or runs k d) ≡ false
+past_none n o runs k d wide past lt = get_or_past (get_or runs k d).covered o false (let long = wide k d lt in omega (arith, long, past))
+
+pub none_covered : (n o : ℕ) (runs : List TestRun) → AreWide n runs → n ≤ o → is_covered_at runs o ≡ false
+none_covered n o runs wide past = list_any_none (covers_at o) runs (λ k d lt. past_none n o runs k d wide past lt)
 
 either_long : (a b : List Bool) → length a ≡ length b → length (either a b) ≡ length a
 either_long [] b size = refl
@@ -102,9 +108,11 @@ prefix_same : {X Y : Type 0} (f : X → Y) (p : Y → Bool) (q : X → Bool) (xs
 prefix_same f p q [] same = refl
 prefix_same f p q (x ∷ xs) same = ap₂ (λ b n. cond b (1 + n) 0) (same x) (prefix_same f p q xs same)
 
+pub none_first : (n o : ℕ) (runs : List TestRun) → AreWide n runs → n ≤ o → None ≡ first_covering runs o
+none_first n o runs wide past = position_nowhere (covers_at o) runs (λ k d lt. past_none n o runs k d wide past lt)
+
 -- the first row that has an obligation
-pub first_is : (parts : Parts) (plan : Planned) (runs : List KeptRun) (o : ℕ) → position (λ (row : TestRow). get_or row.covered o false) (map (row_of parts plan) runs) ≡ first_covering parts plan runs o
-first_is parts plan runs o =
-    let bit : KeptRun → Bool = covers_at parts plan o in
-    let n = prefix_same (row_of parts plan) (λ (row : TestRow). not (get_or row.covered o false)) (λ run. not (bit run)) runs (λ run. ap not (bit_at (λ duty. covers_in parts plan.paths duty run) plan.duties o)) in
-    ap₂ (λ m k. cond (nat_lt m k) (Some m) None) n (length-map runs (row_of parts plan))
+pub first_is : (runs : List TestRun) (o : ℕ) → position (λ (row : TestRow). get_or row.covered o false) (map row_of runs) ≡ first_covering runs o
+first_is runs o =
+    let n = prefix_same row_of (λ (row : TestRow). not (get_or row.covered o false)) (λ run. not (covers_at o run)) runs (λ run. refl) in
+    ap₂ (λ m k. cond (nat_lt m k) (Some m) None) n (length-map runs row_of)

@@ -8,8 +8,7 @@ use Rattle.op_network.specs.declared.test.Test.{Test}
 use Rattle.score_table.specs.declared.fault.AddCause.{AddCause}
 use Rattle.score_table.specs.declared.fault.AddCause.TheVariants.{AlreadyKept, Full, Instants}
 use Rattle.score_table.specs.declared.limits.TheConstants.{MOST_INSTANTS, MOST_TESTS}
-use Rattle.dep_paths.specs.Criteria.{KeptRun}
-use Rattle.score_table.specs.Runs.{AreTestRuns}
+use Rattle.score_table.specs.Runs.{AreTestRuns, TestRun}
 
 -- a network in order, a plan of it, and the tests that are kept
 pub record Tabled : Type 0 where
@@ -18,8 +17,9 @@ pub record Tabled : Type 0 where
   pub tests : List Test
 
 -- Something holds of the runs of the tests that are kept. A table has them, and no others.
-abbrev pub OfRuns : Tabled → (List KeptRun → Type 0) → Type 0
-OfRuns table P = (runs : List KeptRun) → AreTestRuns table.network.network table.tests runs → P runs
+abbrev pub OfRuns : Tabled → (List TestRun → Type 0) → Type 0
+OfRuns table P = (runs : List TestRun)
+    → AreTestRuns table.network.network table.plan table.tests runs → P runs
 
 abbrev pub has_name : List ℕ → Test → Bool
 has_name name test = bytes_eq name test.name

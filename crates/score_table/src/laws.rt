@@ -1,16 +1,15 @@
 ghost use Rattle.dep_paths.specs.declared.path.Criterion.TheVariants.{Bc, Ecc, Mcc};
-ghost use Rattle.score_table.specs.Laws.{FullImplies, OneListOfRuns};
+ghost use Rattle.score_table.specs.Laws.{FullScoreImplies, OneListOfRuns};
 
-use dep_paths::{criteria_imply, runs_follow_activation};
+use dep_paths::criteria_imply;
 
 /// Where multiple conditions are full elementary conditions are, and where these are, basic
 /// coverage is. Does nothing: its clauses are the law.
 pub fn full_scores_imply()
-    ensures elementary { FullImplies Mcc Ecc }
-    ensures basic { FullImplies Ecc Bc }
+    ensures elementary { FullScoreImplies Mcc Ecc }
+    ensures basic { FullScoreImplies Ecc Bc }
 {
     criteria_imply();
-    runs_follow_activation();
 }
 
 /// The tests of a table have one list of runs. Does nothing: its clause is the law.

@@ -1,10 +1,9 @@
 //! The run of a test.
-ghost use Rattle.std.specs.Prelude.{◌≡◌, ◌≢◌, ◌≤◌, ◌<◌, ◌+◌, ◌*◌, ◌||◌, ℕ, [], false, length, slice_index_or, IfOk};
-ghost use Rattle.activation.specs.Acts.{IsMadeFor};
+ghost use Rattle.std.specs.Prelude.{◌≡◌, ◌≢◌, ◌≤◌, ◌<◌, ◌+◌, ◌*◌, ℕ, [], false, length, slice_index_or, IfOk};
 ghost use Rattle.dep_paths.specs.Activation.{Frames};
 ghost use Rattle.op_network.specs.declared.edge.Parts.{Parts};
 ghost use Rattle.score_table.specs.Rows.{IsRowOf};
-ghost use Rattle.score_table.specs.Watching.{Watches, is_met_last};
+ghost use Rattle.score_table.specs.Watching.{IsWatchFor, IsWatchOver, MarksLast, Watches};
 
 use crate::row::TestRow;
 use crate::watch::Watch;
@@ -18,13 +17,13 @@ use stream_run::Runner;
 
 /// Marks the obligation at a place of the plan where it is met at the last instant.
 fn mark(watch: &Watch, plan: &Plan, o: u32, covered: &mut BitRow)
-    requires made { IsMadeFor plan.now watch.now.acts }
+    requires made { IsWatchOver plan.now watch.now }
     requires within { o < length plan.now.duties }
     requires size { length covered.old ≡ length plan.now.duties }
     ensures size { length covered.new ≡ length plan.now.duties }
     ensures marked { (parts : Parts) (frames : Frames) → Watches parts plan.now frames watch.now →
-        frames ≢ [] → slice_index_or covered.new o false
-        ≡ (slice_index_or covered.old o false || is_met_last parts plan.now frames o) }
+        frames ≢ [] → let bit = slice_index_or covered.old o false in
+        MarksLast parts plan.now frames o bit (slice_index_or covered.new o false) }
     ensures others { (k : ℕ) → k ≢ o →
         slice_index_or covered.new k false ≡ slice_index_or covered.old k false }
 {
@@ -35,13 +34,12 @@ fn mark(watch: &Watch, plan: &Plan, o: u32, covered: &mut BitRow)
 
 /// Marks each obligation that is met at the last instant. Linear in the number of obligations.
 fn mark_all(watch: &Watch, plan: &Plan, covered: &mut BitRow)
-    requires made { IsMadeFor plan.now watch.now.acts }
+    requires made { IsWatchOver plan.now watch.now }
     requires size { length covered.old ≡ length plan.now.duties }
     ensures size { length covered.new ≡ length plan.now.duties }
     ensures marked { (parts : Parts) (frames : Frames) → Watches parts plan.now frames watch.now →
-        frames ≢ [] → (k : ℕ) → k < length plan.now.duties →
-        slice_index_or covered.new k false
-        ≡ (slice_index_or covered.old k false || is_met_last parts plan.now frames k) }
+        frames ≢ [] → (k : ℕ) → let bit = slice_index_or covered.old k false in
+        MarksLast parts plan.now frames k bit (slice_index_or covered.new k false) }
 {
     let _ = plan.length();
     let count = plan.duties().len() as u32;
@@ -54,8 +52,8 @@ fn mark_all(watch: &Watch, plan: &Plan, covered: &mut BitRow)
 /// are met before it. Takes a step for each instant that it computes, and all memory before the
 /// first. The watch may be at any instant of another run.
 ///
-/// Linear in the instants times the edges, the paths' prefixes and the obligations. It keeps no
-/// frames but those of the runner.
+/// Linear in the instants times the paths' prefixes, the obligations, and the edges with the
+/// conditions, 32 at a time. It keeps no frames but those of the runner.
 pub(crate) fn run_test<L: Ledger>(
     alloc: Global,
     net: &Ordered,
@@ -64,10 +62,10 @@ pub(crate) fn run_test<L: Ledger>(
     watch: &mut Watch,
     steps: &mut Steps<L>,
 ) -> Result<TestRow, Memory>
-    requires made { IsMadeFor plan.now watch.old.acts }
+    requires made { IsWatchFor net.now.network plan.now watch.old }
     requires size { length test.now.values ≡ test.now.instants * length net.now.network.inputs }
     ensures row { IfOk result (IsRowOf net.now.network plan.now test.now) }
-    ensures made { IsMadeFor plan.now watch.new.acts }
+    ensures made { IsWatchFor net.now.network plan.now watch.new }
     ensures cost { steps.new ≤ steps.old + test.now.instants }
 {
     let width = net.network().parts().inputs.len();
@@ -83,7 +81,7 @@ pub(crate) fn run_test<L: Ledger>(
         if !runner.asserts_hold(net) {
             return Ok(TestRow { covered, kept: t });
         }
-        watch.step(net.network(), plan, runner.frame());
+        watch.step(net, plan, runner.frame());
         mark_all(watch, plan, &mut covered);
         rest = later;
     }

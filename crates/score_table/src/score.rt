@@ -1,6 +1,5 @@
 //! Scores.
-ghost use Rattle.std.specs.Prelude.{◌≡◌, ◌<◌, ◌+◌, ◌^◌, ◌&&◌, if◌then◌else◌, Bool, count_by, length, zip};
-ghost use Rattle.dep_paths.specs.declared.path.Obligation.{Obligation as Duty};
+ghost use Rattle.std.specs.Prelude.{◌≡◌, ◌<◌, ◌+◌, ◌^◌, ◌&&◌, if◌then◌else◌, count_by, length, zip};
 ghost use Rattle.score_table.specs.Coverage as spec;
 
 use cov_base::BitRow;
@@ -45,8 +44,8 @@ pub(crate) fn score_in(duties: &[Obligation], covered: &BitRow, criterion: Crite
     requires few { length duties.now < 2 ^ 32 }
     requires size { length covered.now ≡ length duties.now }
     ensures total { result.total ≡ count_by (spec.is_of criterion) duties.now }
-    ensures covered { let chosen = λ (p : Duty × Bool). spec.is_of criterion p.0 && p.1 in
-        result.covered ≡ count_by chosen (zip duties.now covered.now) }
+    ensures covered { let marked = zip duties.now covered.now in
+        result.covered ≡ count_by (spec.is_covered_of criterion) marked }
 {
     let mut score = Score {
         covered: 0,

@@ -5,8 +5,7 @@ ghost use Rattle.op_network.specs.declared.test.Test.{Test as TestValue};
 ghost use Rattle.op_network.specs.Admissible.{IsKeptOf};
 ghost use Rattle.op_network.specs.Valid.{FitsTest};
 ghost use Rattle.score_table.specs.Coverage.{first_covering, is_covered_at, score_of};
-ghost use Rattle.dep_paths.specs.Criteria.{KeptRun};
-ghost use Rattle.score_table.specs.Runs.{AreTestRuns};
+ghost use Rattle.score_table.specs.Runs.{AreTestRuns, TestRun};
 ghost use Rattle.score_table.specs.Tables.{OfRuns, first_refusal as refusal_of, instants_of, is_kept, with_test, without};
 
 use crate::fault::{AddCause, AddFault, NotKept};
@@ -63,7 +62,7 @@ impl Table {
     {
         let _ = network.sequence();
         let _ = network.network().parts();
-        let Ok(watch) = Watch::new(alloc, network.network(), &plan) else {
+        let Ok(watch) = Watch::new(alloc, &network, &plan) else {
             return Err((network, plan));
         };
         let _ = plan.length();
@@ -84,9 +83,9 @@ impl Table {
     /// the first of these counts; or memory is short. Takes at most a step for each instant of the
     /// test.
     ///
-    /// Linear in the instants times the edges, the paths' prefixes and the obligations, and
-    /// logarithmic in the number of tests. The frames are not kept, and all memory is taken before
-    /// the table changes.
+    /// Linear in the instants times the paths' prefixes, the obligations, and the edges with the
+    /// conditions, 32 at a time, and logarithmic in the number of tests. The frames are not kept,
+    /// and all memory is taken before the table changes.
     pub fn add<L: Ledger>(
         &mut self,
         alloc: Global,
@@ -141,8 +140,7 @@ impl Table {
     /// How many of a criterion's obligations the tests cover, and how many there are. Linear in the
     /// number of obligations.
     pub fn score(&self, criterion: Criterion) -> Score
-        ensures { let parts = self.now.network.network in OfRuns self.now (λ runs.
-            result ≡ score_of parts self.now.plan runs criterion) }
+        ensures { OfRuns self.now (λ runs. result ≡ score_of self.now.plan runs criterion) }
     {
         let _ = self.plan.length();
         score_in(self.plan.duties(), &self.kept.covered, criterion)
@@ -151,8 +149,7 @@ impl Table {
     /// Whether a test covers the obligation at a place of the plan, from 0. None covers one that
     /// the plan lacks. In constant time.
     pub fn covered(&self, o: u32) -> bool
-        ensures { let parts = self.now.network.network in OfRuns self.now (λ runs.
-            result ≡ is_covered_at parts self.now.plan runs o) }
+        ensures { OfRuns self.now (λ runs. result ≡ is_covered_at runs o) }
     {
         (o as usize) < self.plan.duties().len() && self.kept.covered.get(o)
     }
@@ -160,8 +157,7 @@ impl Table {
     /// The place of the first test, from 0, that covers the obligation at a place of the plan.
     /// `None` exactly where none does. Linear in the number of tests.
     pub fn covered_by(&self, o: u32) -> Option<u32>
-        ensures { let parts = self.now.network.network in OfRuns self.now (λ runs.
-            result ≡ first_covering parts self.now.plan runs o) }
+        ensures { OfRuns self.now (λ runs. result ≡ first_covering runs o) }
     {
         if o as usize >= self.plan.duties().len() {
             return None;
@@ -175,8 +171,8 @@ impl Table {
         ensures same { result.now ≡ self.now.tests }
         ensures fit { All (FitsTest self.now.network.network) self.now.tests }
         ensures apart { AllPairs (λ (a b : TestValue). a.name ≢ b.name) self.now.tests }
-        ensures runs { (runs : Seq KeptRun)
-            × AreTestRuns self.now.network.network self.now.tests runs }
+        ensures runs { let parts = self.now.network.network in
+            (runs : Seq TestRun) × AreTestRuns parts self.now.plan self.now.tests runs }
     {
         self.kept.tests.as_slice()
     }

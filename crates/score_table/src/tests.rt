@@ -13,7 +13,7 @@ use std::process::Abort;
 use std::sync::ledger::{Blank, Ledger};
 use std::test::Fail;
 
-/// Edges of type `Truth`, named by their places.
+/// Edges of type `Truth`, called by their places. The first two have names of their own.
 fn edges_of(alloc: Global, ops: &[Op]) -> Result<List<Edge>, Fail> {
     let mut edges = List::new(alloc);
     for op in ops {
@@ -23,7 +23,7 @@ fn edges_of(alloc: Global, ops: &[Op]) -> Result<List<Edge>, Fail> {
             op: *op,
             ty: Ty::Truth,
             name: Text::from_bytes(alloc, name.as_bytes())?,
-            named: true,
+            named: place < 2,
             asserted: false,
         })?;
     }
@@ -131,11 +131,13 @@ const RISES: [Op; 6] = [
     Op::Pre(EdgeId(0)),
 ];
 
-/// Covered and all obligations of basic coverage, elementary and multiple conditions.
-fn scores(table: &Table) -> [u32; 6] {
+/// Covered and all obligations of basic coverage, elementary and multiple conditions, and
+/// observable MC/DC.
+fn scores(table: &Table) -> [u32; 8] {
     let basic = table.score(Criterion::Bc);
     let elementary = table.score(Criterion::Ecc);
     let multiple = table.score(Criterion::Mcc);
+    let observable = table.score(Criterion::Omcdc);
     [
         basic.covered,
         basic.total,
@@ -143,6 +145,8 @@ fn scores(table: &Table) -> [u32; 6] {
         elementary.total,
         multiple.covered,
         multiple.total,
+        observable.covered,
+        observable.total,
     ]
 }
 
@@ -153,7 +157,7 @@ fn a_test_is_kept_once(rt: HostRuntime) -> Result<(), Fail> {
     let first = add(&rt, alloc, &mut table, "a", "011")?;
     let again = add(&rt, alloc, &mut table, "a", "1")?;
     assert_eq!(rt; [first, again], [Some(3), None]);
-    assert_eq!(rt; scores(&table), [2, 2, 3, 4, 13, 16]);
+    assert_eq!(rt; scores(&table), [2, 2, 3, 4, 13, 16, 5, 6]);
     Ok(())
 }
 
@@ -165,7 +169,7 @@ fn a_withdrawn_test_covers_nothing(rt: HostRuntime) -> Result<(), Fail> {
     assert_eq!(rt; [table.covered_by(2), table.covered_by(3)], [Some(0), None]);
     assert_eq!(rt; table.withdraw(b"b"), Err(NotKept));
     assert_eq!(rt; table.withdraw(b"a"), Ok(()));
-    assert_eq!(rt; scores(&table), [0, 2, 0, 4, 0, 16]);
+    assert_eq!(rt; scores(&table), [0, 2, 0, 4, 0, 16, 0, 6]);
     Ok(())
 }
 
@@ -179,6 +183,6 @@ fn a_test_counts_up_to_its_first_failed_assertion(rt: HostRuntime) -> Result<(),
     let none = add(&rt, alloc, &mut table, "u", "01")?;
     assert_eq!(rt; [some, none], [Some(1), Some(0)]);
     assert_eq!(rt; table.instants(), 5);
-    assert_eq!(rt; scores(&table), [1, 1, 1, 2, 2, 4]);
+    assert_eq!(rt; scores(&table), [1, 1, 1, 2, 2, 4, 1, 2]);
     Ok(())
 }

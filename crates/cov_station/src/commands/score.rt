@@ -16,8 +16,8 @@ use dep_paths::MOST_LENGTH;
 use op_network::{LEAST_WIDTH, MOST_WIDTH};
 use std::alloc::Global;
 
-/// What `score` prints: the tests, how many of the obligations on the paths of at most `most_edges`
-/// edges they cover, and those that they don't.
+/// What `score` prints: the tests, how many of the obligations they cover, over the paths of at most
+/// `most_edges` edges, and those that they don't; as text, or as one line of JSON.
 pub(crate) fn score_command<S: Store>(
     alloc: Global,
     store: &mut S,
@@ -26,6 +26,7 @@ pub(crate) fn score_command<S: Store>(
     width: u32,
     main: Option<&str>,
     most_edges: u32,
+    json: bool,
 ) -> Result<List<u8>, Refusal>
     requires narrowest { LEAST_WIDTH ≤ width }
     requires widest { width ≤ MOST_WIDTH }
@@ -33,7 +34,7 @@ pub(crate) fn score_command<S: Store>(
     requires small { most_edges ≤ MOST_LENGTH }
     ensures answer { Does
         (Answers (score (S.files store.old) source.now suite.now width (name_given main.entry)
-        most_edges)) Same result }
+        most_edges json)) Same result }
     ensures counts { Counted result (S.counts store.old) (S.counts store.new) }
     ensures never_fall { NeverFall (S.counts store.old) (S.counts store.new) }
     ensures files { S.files store.new ≡ S.files store.old }
@@ -41,5 +42,5 @@ pub(crate) fn score_command<S: Store>(
     let net = read_source(alloc, store, source, width, main)?;
     let plan = plan_of(alloc, net.network(), most_edges)?;
     let tests = read_tests(alloc, store, suite, net.network())?;
-    Ok(score_text(alloc, net, plan, tests)?)
+    Ok(score_text(alloc, net, plan, tests, json)?)
 }

@@ -1,11 +1,11 @@
 ghost use Rattle.std.specs.Prelude.{◌≡◌, ◌<◌, ◌++◌, ◌∷◌, [], All, IfOk, OnOk, codes, decimal};
 ghost use Rattle.op_network.specs.Valid.{FitsTest};
+ghost use Rattle.cov_station.specs.Failures.{failure_line};
 ghost use Rattle.cov_station.specs.NetworkText.{NetworkText};
 ghost use Rattle.cov_station.specs.Playing.{IsTestBehind};
-ghost use Rattle.cov_station.specs.Values.{failure_line};
 
-use crate::runs::lines::{push_inputs, push_lines};
 use crate::runs::playing::play;
+use crate::runs::streams::{push_inputs, push_outputs};
 use cov_base::{List, Memory, Steps, push_decimal};
 use lus_causality::Ordered;
 use op_network::Test;
@@ -55,11 +55,10 @@ fn push_test<L: Ledger>(
     requires { FitsTest net.now.network test.now }
     ensures { OnOk result (IsTestBehind net.now.network test.now text.old text.new) }
 {
-    let parts = net.network().parts();
     push_name(text, test.name.bytes())?;
-    push_inputs(text, parts, test.instants, test.values.as_slice())?;
+    push_inputs(alloc, net.network(), test, text)?;
     let playing = play(alloc, net, test, steps)?;
-    push_lines(text, playing.lines.as_slice())?;
+    push_outputs(net.network(), playing.streams.as_slice(), text)?;
     push_failure(text, playing.failed)?;
     Ok(())
 }
@@ -90,7 +89,8 @@ fn text_of<L: Ledger>(
 /// where an assertion fails, the first instant at which one does. Answers `Memory` for want of it.
 ///
 /// Linear in the instants times the edges, and in the length of the text. Beside the text it keeps
-/// two frames and the lines of one test's outputs.
+/// two frames and the values of one test's outputs at all its instants, and while the lines of
+/// inputs are added, the values of one input.
 pub(crate) fn network_text(alloc: Global, net: &Ordered, tests: &[Test]) -> Result<List<u8>, Memory>
     requires { All (FitsTest net.now.network) tests.now }
     ensures { IfOk result (NetworkText net.now.network tests.now) }

@@ -4,7 +4,7 @@ ghost use Rattle.stream_run.specs.Runs.{Extends};
 ghost use Rattle.cov_station.specs.NetworkText.{are_asserted, input_rows};
 ghost use Rattle.cov_station.specs.Playing.{IsPlayed, failure_after};
 
-use crate::runs::lines::{extend_lines, new_lines};
+use crate::runs::streams::{extend_streams, new_streams};
 use cov_base::{List, Memory, Steps};
 use lus_causality::{Ordered, one_run};
 use op_network::{Test, Value};
@@ -12,16 +12,16 @@ use std::alloc::Global;
 use std::sync::ledger::Ledger;
 use stream_run::{MOST_INSTANTS, Runner};
 
-/// The run of a test, up to an instant: of its frames the lines of the outputs are kept, and the
+/// The run of a test, up to an instant: of its frames the streams of the outputs are kept, and the
 /// first instant at which an assertion fails.
 #[derive(Debug, Drop)]
 pub(crate) struct Playing {
     pub(crate) runner: Runner,
-    pub(crate) lines: List<List<u8>>,
+    pub(crate) streams: List<List<Value>>,
     pub(crate) failed: Option<u32>,
 }
 
-/// Before instant 0. Takes memory for two frames and the names of the outputs.
+/// Before instant 0. Takes memory for two frames and a stream with no values for each output.
 fn begin(alloc: Global, net: &Ordered) -> Result<Playing, Memory>
     ensures played { IfOk result (IsPlayed net.now.network []) }
     ensures size { let edges = net.now.network.edges in
@@ -29,7 +29,7 @@ fn begin(alloc: Global, net: &Ordered) -> Result<Playing, Memory>
 {
     Ok(Playing {
         runner: Runner::new(alloc, net)?,
-        lines: new_lines(alloc, net.network().parts())?,
+        streams: new_streams(alloc, net.network().parts().outputs.as_slice())?,
         failed: None,
     })
 }
@@ -62,7 +62,7 @@ fn play_instant<L: Ledger>(
     steps: &mut Steps<L>,
 ) -> Result<(), Memory>
     requires size { length playing.old.runner.frame ≡ length net.now.network.edges }
-    requires lines { length playing.old.lines ≡ length net.now.network.outputs }
+    requires streams { length playing.old.streams ≡ length net.now.network.outputs }
     requires instants { playing.old.runner.instant < MOST_INSTANTS }
     ensures played { let played = IsPlayed net.now.network in
         OnOk result (Extends played inputs.now playing.old playing.new) }
@@ -70,16 +70,14 @@ fn play_instant<L: Ledger>(
 {
     one_run();
     let _ = net.sequence();
-    let parts = net.network().parts();
+    let outputs = net.network().parts().outputs.as_slice();
     playing.runner.step(net, inputs, steps);
     playing.failed = first_failed(net, &playing.runner, playing.failed);
-    let frame = playing.runner.frame().values();
-    extend_lines(playing.lines.items_mut(), parts, frame)?;
-    Ok(())
+    extend_streams(playing.streams.items_mut(), outputs, playing.runner.frame())
 }
 
-/// The whole run of a test, also behind a failed assertion. Linear in instants times edges; of the
-/// frames two are kept.
+/// The whole run of a test, also behind a failed assertion. Linear in instants times edges; two
+/// frames are kept, and the values of the outputs at all instants.
 pub(crate) fn play<L: Ledger>(
     alloc: Global,
     net: &Ordered,

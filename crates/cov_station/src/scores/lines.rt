@@ -1,11 +1,11 @@
-//! The lines of tests and of scores.
-ghost use Rattle.std.specs.Prelude.{◌≡◌, ◌≤◌, ◌++◌, OnOk};
-ghost use Rattle.cov_station.specs.Scores.{criterion_name as name_of, failure_at, score_line};
-ghost use Rattle.cov_station.specs.Scores.{share, spaced, test_line};
+//! The lines of tests and of obligations.
+ghost use Rattle.std.specs.Prelude.{◌≡◌, ◌<◌, ◌++◌, OnOk, length};
+ghost use Rattle.cov_station.specs.Scores.{failure_at, missing_line, spaced, test_line};
 
-use cov_base::{List, Memory, push_decimal, push_percent};
-use dep_paths::{Criterion, Score};
-use op_network::Test;
+use cov_base::{List, Memory, push_decimal};
+use cov_report::duty_text;
+use dep_paths::Plan;
+use op_network::{Network, Test};
 
 /// A number behind a space.
 fn push_count(text: &mut List<u8>, count: u32) -> Result<(), Memory>
@@ -39,41 +39,19 @@ pub(crate) fn push_test_line(text: &mut List<u8>, test: &Test, kept: u32) -> Res
     text.extend_from_slice(b"\n")
 }
 
-/// The name of a criterion.
-pub(crate) fn criterion_name(criterion: Criterion) -> &'static [u8]
-    ensures { result.now ≡ name_of criterion }
-{
-    match criterion {
-        Criterion::Bc => b"BC",
-        Criterion::Ecc => b"ECC",
-        Criterion::Mcc => b"MCC",
-        Criterion::Omcdc => b"OMCDC",
-    }
-}
-
-/// How many are covered, how many there are, and the percentage.
-fn push_share(text: &mut List<u8>, score: Score) -> Result<(), Memory>
-    requires { score.covered ≤ score.total }
-    ensures { OnOk result (text.new ≡ text.old ++ share score) }
-{
-    push_decimal(text, i64::from(score.covered))?;
-    text.extend_from_slice(b"/")?;
-    push_decimal(text, i64::from(score.total))?;
-    text.extend_from_slice(b" ")?;
-    push_percent(text, score.covered, score.total)
-}
-
-/// A criterion's name and its score.
-pub(crate) fn push_score_line(
+/// The line of an obligation that is not covered, by its place from 0. Linear in its path's length.
+pub(crate) fn push_missing_line(
     text: &mut List<u8>,
-    criterion: Criterion,
-    score: Score,
+    net: &Network,
+    plan: &Plan,
+    o: u32,
 ) -> Result<(), Memory>
-    requires { score.covered ≤ score.total }
-    ensures { OnOk result (text.new ≡ text.old ++ score_line criterion score) }
+    requires { o < length plan.now.duties }
+    ensures { OnOk result (text.new ≡ text.old ++ missing_line net.now.edges plan.now o) }
 {
-    text.extend_from_slice(criterion_name(criterion))?;
+    text.extend_from_slice(b"missing ")?;
+    push_decimal(text, i64::from(o) + 1)?;
     text.extend_from_slice(b" ")?;
-    push_share(text, score)?;
+    duty_text(net, plan, o, text)?;
     text.extend_from_slice(b"\n")
 }

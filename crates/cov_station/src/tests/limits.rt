@@ -106,15 +106,48 @@ fn doublings(alloc: Global, count: u32) -> Result<Vec<u8>, Fail> {
     Ok(text.into_bytes())
 }
 
+/// Adds the lines of both ports of a conjunction, of which false is missing.
+fn push_ports(alloc: Global, text: &mut String, node: &str, number: u32) -> Result<(), Fail> {
+    let (first, second) = (
+        number.saturating_mul(4).saturating_sub(2),
+        number.saturating_mul(4),
+    );
+    text.push_str(format!(in alloc; "missing {first} OMCDC {node}:0 false\n")?.as_str())?;
+    text.push_str(format!(in alloc; "missing {second} OMCDC {node}:1 false\n")?.as_str())?;
+    Ok(())
+}
+
+/// The score of so many doublings where there is no path and all are true: each port of each
+/// conjunction is observed as true.
+fn observed_alone(alloc: Global, count: u32) -> Result<Vec<u8>, Fail> {
+    let (covered, total) = (count.saturating_mul(2), count.saturating_mul(4));
+    let mut text = String::from_str(alloc, "test t 1 1\nBC 0/0 -\nECC 0/0 -\nMCC 0/0 -\n")?;
+    text.push_str(format!(in alloc; "OMCDC {covered}/{total} 50.0%\n")?.as_str())?;
+    for number in 1..count {
+        let node = format!(in alloc; "v{number}")?;
+        push_ports(alloc, &mut text, node.as_str(), number)?;
+    }
+    push_ports(alloc, &mut text, "y", count)?;
+    Ok(text.into_bytes())
+}
+
 #[test]
 fn what_is_too_long_is_no_path(rt: HostRuntime) -> Result<(), Fail> {
     let alloc = rt.alloc();
     let suite = b"test,x\nt,1\n";
-    let none = b"test t 1 1\nBC 0/0 -\nECC 0/0 -\nMCC 0/0 -\n";
     let fifteen = doublings(alloc, 15)?;
-    score(&rt, fifteen.as_slice(), suite, &["--length", "15"], none)?;
+    let text = observed_alone(alloc, 15)?;
+    let length = &["--length", "15"];
+    score(&rt, fifteen.as_slice(), suite, length, text.as_slice())?;
     let sixty = doublings(alloc, 60)?;
-    score(&rt, sixty.as_slice(), suite, &["--length", "60"], none)
+    let text = observed_alone(alloc, 60)?;
+    score(
+        &rt,
+        sixty.as_slice(),
+        suite,
+        &["--length", "60"],
+        text.as_slice(),
+    )
 }
 
 /// The score of a source ends so where there is no suite.

@@ -61,7 +61,6 @@ fn words_that_do_not_fit(rt: HostRuntime) -> Result<(), Fail> {
 
 #[test]
 fn commands_to_come(rt: HostRuntime) -> Result<(), Fail> {
-    no_command(&rt, &["score", "e.lus", "a.csv", "--json"])?;
     no_command(&rt, &["session", "e.lus", "a.csv", "s.txt"])?;
     no_command(&rt, &["generate", "e.lus", "a.csv"])?;
     no_command(&rt, &["certify", "e.lus", "1", "1", "a.csv"])?;

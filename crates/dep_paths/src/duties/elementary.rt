@@ -1,9 +1,9 @@
 ghost use Rattle.std.specs.Prelude.{◌≡◌, ◌≤◌, ◌++◌, length, OnOk};
 ghost use Rattle.dep_paths.specs.Duties.{elementary_duties, elementary_conditions};
 
-use crate::duties::truths::is_truth_edge;
 use crate::limits::MOST_PATHS;
 use crate::path::{Obligation, Path};
+use crate::truths::is_truth_edge;
 use cov_base::{List, Memory};
 use op_network::Edge;
 

@@ -6,9 +6,9 @@ ghost use Rattle.dep_paths.specs.declared.path.Pin.{Pin as PinValue};
 ghost use Rattle.dep_paths.specs.Duties.{multiple_duties, multiple_conditions, pins_at, pins_on};
 ghost use Rattle.dep_paths.specs.Paths.{path_length};
 
-use crate::duties::truths::is_truth_edge;
 use crate::limits::{MOST_LENGTH, MOST_PATHS};
 use crate::path::{Obligation, Path, Pin};
+use crate::truths::is_truth_edge;
 use cov_base::{List, Memory};
 use op_network::{Edge, EdgeId};
 

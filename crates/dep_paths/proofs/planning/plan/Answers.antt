@@ -34,8 +34,8 @@ returns-in_err-paths-clause-duties_exact c = λ more.
     let memory = is_memory c.in_err-paths.field-0.0 (λ e. few_paths c.args.net.now c.args.n more (c.in_err-paths.ensures.many (ap Err e))) (λ e. c.in_err-paths.ensures.never (ap Err e)) in
     inr (cc (p.1, p.2, memory))
 
-pub returns-in-Ok-clause-duties_exact : goal.returns-in-Ok-clause-duties_exact
-returns-in-Ok-clause-duties_exact c = λ more.
+pub returns-in-Ok-duties_on-clause-duties_exact : goal.returns-in-Ok-duties_on-clause-duties_exact
+returns-in-Ok-duties_on-clause-duties_exact c = λ more.
     let net = ap (λ (parts : Parts). parts.edges) c.parts.ensures.same in
     let counted : length (duties c.as_slice-edges.result.now c.as_slice.result.now) ≡ length (duties c.args.net.now.edges c.in_ok-paths.paths) = ap (length {A = Obligation}) (cc (net, c.as_slice.ensures, c.as_slice-edges.ensures)) in
-    absurd (asks_little c.args.net.now c.args.n c.in_ok-paths.paths c.in_ok-paths.ensures.paths (omega (arith, c.if-duty_count.false, c.duty_count.ensures, counted)) more)
+    absurd (asks_little c.args.net.now c.args.n c.in_ok-paths.paths c.in_ok-paths.ensures.paths (omega (arith, c.if-duty_count.false, c.duty_count.ensures.count, counted)) more)

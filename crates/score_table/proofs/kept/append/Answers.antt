@@ -1,8 +1,6 @@
 use Rattle.std.proofs.Common.{◌∙◌, ◌++◌, ◌∷◌, [], ◌+◌, ap, arith, cond, true}
 use Rattle.std.specs.Str.{bytes_eq}
 use Rattle.cov_base.specs.BitRow.{either}
-use Rattle.op_network.specs.declared.test.Test.{Test}
-use Rattle.score_table.specs.declared.row.TestRow.{TestRow}
 use Rattle.score_table.specs.Names.{holds}
 use Rattle.score_table.proofs.KeptTests.{accepted, put_last}
 use Rattle.score_table.proofs.kept.append.Goals as goal

@@ -1,7 +1,7 @@
-use Rattle.std.proofs.Common.{◌≡◌, ◌≢◌, ◌<◌, ◌≤◌, ◌||◌, ℕ, [], false, length, get_or}
+use Rattle.std.proofs.Common.{◌≡◌, ◌≢◌, ◌<◌, ◌≤◌, ℕ, [], false, length, get_or}
 use Rattle.dep_paths.specs.Activation.{Frames}
 use Rattle.op_network.specs.declared.edge.Parts.{Parts}
-use Rattle.score_table.specs.Watching.{Watches, is_met_last}
+use Rattle.score_table.specs.Watching.{MarksLast, Watches}
 use Rattle.score_table.proofs.running.mark_all.Given as goal
 
 -- the obligations so far are marked, and the others as before
@@ -9,6 +9,6 @@ abbrev pub invariant-loop-o : goal.invariant-loop-o
 invariant-loop-o l = record {
   size : length l.covered ≡ length l.plan.duties;
   marked : (parts : Parts) (frames : Frames) → Watches parts l.plan frames l.watch → frames ≢ [] → (k : ℕ) → k < l.o
-      → get_or l.covered k false ≡ (get_or l.fn.covered k false || is_met_last parts l.plan frames k);
+      → MarksLast parts l.plan frames k (get_or l.fn.covered k false) (get_or l.covered k false);
   later : (k : ℕ) → l.o ≤ k → get_or l.covered k false ≡ get_or l.fn.covered k false;
 }

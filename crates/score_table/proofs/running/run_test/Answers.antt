@@ -4,7 +4,7 @@ use Rattle.op_network.specs.declared.edge.Parts.{Parts}
 use Rattle.op_network.specs.declared.value.Value.{Value}
 use Rattle.op_network.specs.Valid.{IsValid}
 use Rattle.score_table.specs.Watching.{Watches}
-use Rattle.score_table.proofs.Tested.{tested_more, tested_none, tested_stopped, tested_whole}
+use Rattle.score_table.proofs.Tested.{tested_more, tested_none, tested_stopped, tested_whole, tested_wide}
 use Rattle.score_table.proofs.running.run_test.Goals as goal
 
 pub loop-t-init : goal.loop-t-init
@@ -25,6 +25,10 @@ returns-then-not-asserts_hold-clause-row g c =
     tested_stopped parts c.args.plan.now c.args.test.now c.loop-t.t c.loop-t.runner c.step.new.self c.loop-t.rest.now c.split_at.result.0.now c.loop-t.watch c.loop-t.covered
     (subst IsValid c.network.ensures c.parts.ensures.valid) c.sequence.ensures.no_cycle c.loop-t-test.true front c.loop-t.invariant.tested c.step.ensures.stands (λ asserts. let holds = c.asserts_hold.ensures.1 asserts in absurd (cc (holds, fails)))
 
+pub mark_all-requires-clause-size : goal.mark_all-requires-clause-size
+mark_all-requires-clause-size g c =
+    tested_wide c.args.net.now.network c.args.plan.now c.args.test.now c.loop-t.t c.loop-t.runner c.loop-t.rest.now c.loop-t.watch c.loop-t.covered c.loop-t.invariant.tested
+
 pub loop-t-preserved : goal.loop-t-preserved
 loop-t-preserved g c =
     let parts = c.args.net.now.network in
@@ -35,11 +39,9 @@ loop-t-preserved g c =
     record {
       tested = tested_more parts plan c.args.test.now c.loop-t.t c.loop-t.runner c.step.new.self c.loop-t.rest.now c.split_at.result.1.now c.split_at.result.0.now c.loop-t.watch c.step-in-loop-t.new.self c.loop-t.covered c.mark_all.new.covered
           (subst IsValid c.network.ensures c.parts.ensures.valid) c.sequence.ensures.no_cycle c.loop-t-test.true front back c.loop-t.invariant.tested c.step.ensures.stands c.step.ensures.instant c.step.ensures.size (c.asserts_hold.ensures.0 c.if-not-asserts_hold.false)
-          (λ frames seen. subst (λ (frame : List Value). Watches parts plan (frames ++ frame ∷ []) c.step-in-loop-t.new.self) c.frame.ensures
-          (subst (λ (p : Parts). Watches p plan (frames ++ c.frame.result.now ∷ []) c.step-in-loop-t.new.self) c.network-in-loop-t.ensures
-          (c.step-in-loop-t.ensures.watches frames (subst (λ (p : Parts). Watches p plan frames c.loop-t.watch) (sym c.network-in-loop-t.ensures) seen))))
+          (λ frames seen. subst (λ (frame : List Value). Watches parts plan (frames ++ frame ∷ []) c.step-in-loop-t.new.self) c.frame.ensures (c.step-in-loop-t.ensures frames seen))
           c.mark_all.ensures.size
-          (λ frames seen some k lt. c.mark_all.ensures.marked parts frames seen some k lt);
+          (λ frames seen some k. c.mark_all.ensures.marked parts frames seen some k);
       cost = let now = c.step.ensures.cost in let before = c.loop-t.invariant.cost in omega (arith, now, before);
     }
 

@@ -17,12 +17,16 @@ get-requires c =
 
 pub returns-then-o-duties : goal.returns-then-o-duties
 returns-then-o-duties c =
-    subst (λ (table : Tabled). OfRuns table (λ runs. c.get.result ≡ is_covered_at table.network.network table.plan runs c.args.o)) c.self.view_is
-    (covered_told c.self.inside.network c.self.inside.plan c.self.inside.kept c.self.inside.watch c.args.o c.get.result c.self.invariant c.get.ensures)
+    let inside = c.self.inside in
+    let size = ap length c.duties.ensures in
+    let within = c.if-o-duties.true in
+    subst (λ (table : Tabled). OfRuns table (λ runs. c.get.result ≡ is_covered_at runs c.args.o)) c.self.view_is
+    (covered_told inside.network inside.plan inside.kept inside.watch c.args.o c.get.result c.self.invariant (omega (arith, size, within)) c.get.ensures)
 
 pub returns-else-o-duties : goal.returns-else-o-duties
 returns-else-o-duties c =
+    let inside = c.self.inside in
     let size = ap length c.duties.ensures in
     let past = c.if-o-duties.false in
-    subst (λ (table : Tabled). OfRuns table (λ runs. nat_lt c.args.o (length c.duties.result.now) ≡ is_covered_at table.network.network table.plan runs c.args.o)) c.self.view_is
-    (nothing_told c.self.inside.network c.self.inside.plan c.self.inside.kept c.self.inside.watch c.args.o (nat_lt c.args.o (length c.duties.result.now)) c.self.invariant (omega (arith, size, past)) (le-ltb c.args.o (length c.duties.result.now) (omega (arith, past))))
+    subst (λ (table : Tabled). OfRuns table (λ runs. nat_lt c.args.o (length c.duties.result.now) ≡ is_covered_at runs c.args.o)) c.self.view_is
+    (nothing_told inside.network inside.plan inside.kept c.args.o (nat_lt c.args.o (length c.duties.result.now)) (omega (arith, size, past)) (le-ltb c.args.o (length c.duties.result.now) (omega (arith, past))))

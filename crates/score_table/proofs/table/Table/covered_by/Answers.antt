@@ -1,4 +1,4 @@
-use Rattle.std.proofs.Common.{◌≡◌, ◌<◌, ◌∙◌, ap, arith, length, sym, subst}
+use Rattle.std.proofs.Common.{◌≡◌, ◌<◌, ap, arith, length, sym, subst}
 use Rattle.std.specs.Prelude.{None, All}
 use Rattle.score_table.specs.declared.row.TestRow.{TestRow}
 use Rattle.score_table.specs.Coverage.{first_covering}
@@ -12,8 +12,8 @@ pub returns-then-o-duties : goal.returns-then-o-duties
 returns-then-o-duties c =
     let size = ap length c.duties.ensures in
     let past = c.if-o-duties.true in
-    subst (λ (table : Tabled). OfRuns table (λ runs. None ≡ first_covering table.network.network table.plan runs c.args.o)) c.self.view_is
-    (none_told c.self.inside.network c.self.inside.plan c.self.inside.kept c.self.inside.watch c.args.o c.self.invariant (omega (arith, size, past)))
+    subst (λ (table : Tabled). OfRuns table (λ runs. None ≡ first_covering runs c.args.o)) c.self.view_is
+    (none_told c.self.inside.network c.self.inside.plan c.self.inside.kept c.args.o (omega (arith, size, past)))
 
 pub first_with-requires-clause-few : goal.first_with-requires-clause-few
 first_with-requires-clause-few c =
@@ -33,5 +33,5 @@ first_with-requires-clause-within c =
 
 pub returns : goal.returns
 returns c =
-    subst (λ (table : Tabled). OfRuns table (λ runs. c.first_with.result ≡ first_covering table.network.network table.plan runs c.args.o)) c.self.view_is
+    subst (λ (table : Tabled). OfRuns table (λ runs. c.first_with.result ≡ first_covering runs c.args.o)) c.self.view_is
     (first_told c.self.inside.network c.self.inside.plan c.self.inside.kept c.self.inside.watch c.args.o c.as_slice.result.now c.first_with.result c.self.invariant c.as_slice.ensures.value c.first_with.ensures)

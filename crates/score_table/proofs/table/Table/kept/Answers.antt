@@ -1,4 +1,4 @@
-use Rattle.std.proofs.Common.{◌≡◌, ◌<◌, ◌∙◌, ap, arith, length, sym, subst}
+use Rattle.std.proofs.Common.{◌≡◌, ap, arith, length, subst}
 use Rattle.std.specs.Prelude.{Some, slice_get}
 use Rattle.op_network.specs.declared.test.Test.{Test}
 use Rattle.op_network.specs.Admissible.{IsKeptOf}

@@ -12,5 +12,5 @@ score_in-requires-clause-size c =
 
 pub returns : goal.returns
 returns c =
-    subst (λ (table : Tabled). OfRuns table (λ runs. c.score_in.result ≡ score_of table.network.network table.plan runs c.args.criterion)) c.self.view_is
+    subst (λ (table : Tabled). OfRuns table (λ runs. c.score_in.result ≡ score_of table.plan runs c.args.criterion)) c.self.view_is
     (score_told c.self.inside.network c.self.inside.plan c.self.inside.kept c.self.inside.watch c.args.criterion c.score_in.result c.duties.result.now c.self.invariant c.duties.ensures c.score_in.ensures.total c.score_in.ensures.covered)

@@ -1,5 +1,5 @@
 use Rattle.std.proofs.Common.{◌≡◌, ◌∙◌, [], List, ap, false, get_or, sym, subst, true}
-use Rattle.std.specs.Prelude.{Some, position}
+use Rattle.std.specs.Prelude.{position}
 use Rattle.std.proofs.lemmas.List.Folds.{list_any_at}
 use Rattle.std.proofs.lemmas.List.Quantifiers.{position-Some}
 use Rattle.op_network.specs.declared.test.Test.{Test}

@@ -1,0 +1,4 @@
+pub mod Values
+pub mod Scores
+pub mod Duties
+pub mod Json

@@ -1,0 +1,13 @@
+pub mod Marking
+pub mod BitSets
+pub mod Adding
+pub mod Tables
+pub mod Placing
+pub mod Columns
+pub mod Makings
+pub mod Starting
+pub mod Joining
+pub mod Ordering
+pub mod Standing
+pub mod Sizes
+pub mod Telling
