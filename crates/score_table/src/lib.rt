@@ -10,8 +10,6 @@ mod row;
 mod running;
 mod score;
 mod table;
-#[cfg(test)]
-mod tests;
 mod watch;
 
 pub use fault::{AddCause, AddFault, NotKept};
