@@ -4,6 +4,7 @@ pub mod Agreement
 pub mod Bounds
 pub mod CircuitSizes
 pub mod ConditionGates
+pub mod Coverable
 pub mod Decoding
 pub mod Fits
 pub mod Gates

@@ -44,7 +44,7 @@ use Rattle.goal_cnf.proofs.Words.{length_instants, sized_at, laid}
 
 -- ---- lists
 
-length_taken : {X : Type 0} (n : ℕ) (xs : List X) → n ≤ length xs → length (take n xs) ≡ n
+pub length_taken : {X : Type 0} (n : ℕ) (xs : List X) → n ≤ length xs → length (take n xs) ≡ n
 length_taken zero xs le = refl
 length_taken (suc n) [] le = absurd (omega (arith, le))
 length_taken (suc n) (x ∷ xs) le = ap suc (length_taken n xs (omega (arith, le)))

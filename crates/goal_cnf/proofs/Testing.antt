@@ -175,7 +175,7 @@ module _ (parts : Parts) (valid : IsValid parts) (order : List EdgeId) (sequence
       some_hit t values s le = none_holds v goal.hits (λ j lt. s.none j (omega (arith, hits_long))) (ap (holds v) made.is.hits ∙ meets.some)
 
       pub decodes : (t : ℕ) (values : List Value) (test : Test) (old : List Value) → DecodedSoFar parts v un.words goal.hits t old → t < k → values ≡ old ++ row_of parts v (word_at un.words t) → truth v (lit_at goal.hits t) ≡ true →
-          test.instants ≡ t + 1 → test.values ≡ values → Decodes parts plan place k v goal.hits test
+          test.instants ≡ t + 1 → test.values ≡ values → Decodes parts order plan place k v goal.hits test
       decodes t values test old s lt l hit at vs =
           let tables = map table_of un.words in
           let few : suc t ≤ length tables = omega (arith, length_map un.words, long) in
@@ -193,6 +193,7 @@ module _ (parts : Parts) (valid : IsValid parts) (order : List EdgeId) (sequence
             instants = one;
             few = omega (arith, at);
             least = record { within = omega (arith, hits_long); hit = hit; least = s.none };
+            inputs = own ∙ ap (λ n. take n (rows_of parts v (words parts order k))) (sym one);
             fits = record {
               some = omega (arith, at);
               size = ap length all ∙ (length_joined parts v (suc t) tables few ∙ ap (λ n. n * length parts.inputs) (sym one));

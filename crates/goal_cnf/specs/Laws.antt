@@ -1,5 +1,6 @@
--- What the assignments that satisfy the formula of a goal are.
-use Rattle.std.specs.Prelude.{◌≡◌, ℕ, suc, Bool, IsTrue, List, length, take, Some, slice_get, Contains}
+-- What the assignments that satisfy the formula of a goal are, and what an obligation that can be
+-- reached has to do with coverage.
+use Rattle.std.specs.Prelude.{◌≡◌, ◌↔◌, ℕ, suc, Bool, IsTrue, List, length, take, Some, slice_get, Contains}
 use Rattle.cnf_form.specs.declared.lit.Lit.{Lit}
 use Rattle.cnf_form.specs.Lits.{truth, holds}
 use Rattle.cnf_form.specs.Shape.{Satisfies}
@@ -13,7 +14,7 @@ use Rattle.unroll_cnf.specs.Unrolled.{words}
 use Rattle.dep_paths.specs.declared.path.Obligation.{Obligation}
 use Rattle.dep_paths.specs.Duties.{Planned, IsPlanOf}
 use Rattle.goal_cnf.specs.Goal.{goal_hits, goal_formula}
-use Rattle.goal_cnf.specs.Reaches.{Encodes, Reaches}
+use Rattle.goal_cnf.specs.Reaches.{Encodes, IsCoverable, IsReachable, Reaches}
 
 -- the formula of an obligation of a plan says that the obligation is reachable
 abbrev pub GoalEncodes : Type 0
@@ -46,3 +47,10 @@ abbrev pub HitsStandForInstants : Type 0
 HitsStandForInstants =
     (parts : Parts) (order : List EdgeId) (plan : Planned) (o : Obligation) (k : ℕ)
     → length (goal_hits parts order plan o k).result ≡ k
+
+-- An obligation is met at the last instant of some admissible rows exactly where some cover it: so
+-- one that is not reachable is covered by none.
+abbrev pub ReachableIsCoverable : Type 0
+ReachableIsCoverable =
+    (parts : Parts) (plan : Planned) (o : Obligation) (k : ℕ)
+    → IsReachable parts plan o k ↔ IsCoverable parts plan o k

@@ -46,7 +46,7 @@ fn goal_of(
     ensures vars { let size = size_of net.now.network un.now.instants in
         IfOk result (λ it. it.formula.vars ≤ size) }
 {
-    // what the network and the plan say of themselves is known once they are read
+    // what the network says of its sequence is known once that is read
     let _sequence = net.sequence();
     let mut maker = un.maker().copy(alloc)?;
     match hits(alloc, &mut maker, un, net, plan, duty) {
@@ -65,13 +65,14 @@ fn goal_of(
     }
 }
 
-/// The formula that has a model exactly where admissible inputs of at most as many instants as `un`
-/// has meet the obligation at a place of the plan, from 0. Behind the formula of `un` stand,
-/// instant by instant, the gates of the obligation, of the assertions and of the hit; the last
-/// clause has all hits. The network's unrolled formula, its ordered network and its plan are handed
-/// in. The variables are at most the size that `unroll` asks for, so `Memory` comes for want of it
-/// alone. The cost is that of a copy of the formula of `un`, and linear in the instants times the
-/// ports, the edges and the length of the path.
+/// The formula that has a model exactly where some admissible sequence of inputs within the `k`
+/// instants of `un` meets an obligation at its last instant. `o` is the obligation's place in the
+/// plan's obligations, from 0. Behind the formula of `un` stand, instant by instant, the gates of
+/// the obligation, of the assertions and of the hit; the last clause has all hits. The formula and
+/// the words of `un` are those that `unroll` answered for `net`, with its room and its size, and
+/// `plan` is a plan of the network of `net`. The variables are at most that size, so `Memory` comes
+/// for want of it alone. The cost is that of a copy of the formula of `un` and, for each instant,
+/// linear in the length of the path, or in the edges and ports, and in the assertions.
 pub fn goal(
     alloc: Global,
     un: &Unrolled,

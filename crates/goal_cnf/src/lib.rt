@@ -3,7 +3,11 @@
 //!
 //! It is the formula of the unrolled network, and after it, instant by instant, the gates that tell
 //! whether the obligation is met, whether the sequence so far is admissible, and whether both hold.
-//! Its last clause asks for one instant at which both do.
+//! Its last clause asks for one instant at which both do. `goal` makes it, and `decode` gives the
+//! test that a model of it is.
+//!
+//! `goal_encodes` says what its models are, and `reachable_is_coverable` that an obligation for
+//! which it has none is covered by no admissible sequence of so many instants.
 #![tactic(auto)]
 
 mod admitted;
@@ -20,5 +24,5 @@ mod place;
 
 pub use formula::Goal;
 pub use goals::goal;
-pub use laws::goal_encodes;
+pub use laws::{goal_encodes, reachable_is_coverable};
 pub use model::decode;

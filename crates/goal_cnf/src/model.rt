@@ -89,11 +89,13 @@ fn add_row(
     Ok(())
 }
 
-/// The test with a name that a model of a goal's formula gives: it fits, and has the inputs up to
-/// the least instant that is hit, at which it reaches the obligation. The goal is that of the
-/// obligation at a place of the plan over the unrolled network, and there is a bit for each
-/// variable of its formula. Answers `Memory` for want of it alone. The cost is linear in the bits
-/// of the inputs' words.
+/// The test with this name that a model of a goal's formula gives. `bits` is the model: it has a
+/// bit for each variable of the formula and satisfies it. The goal is the one that `goal` answers
+/// for the place `o`, from 0, in the plan's obligations and for `un`, which `unroll` answered for
+/// `net`. The test fits, has the model's inputs up to the least instant that is hit, meets all
+/// assertions at each of these instants and the obligation at the last, and has at most the `k`
+/// instants of `un`. Answers `Memory` for want of it alone. The cost is linear in the instants up
+/// to the hit and in the bits of the inputs' words at them.
 pub fn decode(
     alloc: Global,
     un: &Unrolled,
@@ -114,7 +116,8 @@ pub fn decode(
     requires model { Satisfies (valuation bits.now) goal.now.formula }
     ensures name { IfOk result (λ test. test.name ≡ name) }
     ensures test { let k = un.now.instants in let v = valuation bits.now in
-        IfOk result (Decodes net.now.network plan.now o k v goal.now.hits) }
+        let order = net.now.sequence in
+        IfOk result (Decodes net.now.network order plan.now o k v goal.now.hits) }
 {
     let parts = net.network().parts();
     // what the network says of its sequence is known once it is read

@@ -2,11 +2,10 @@
 ghost use Rattle.std.specs.Prelude.{◌≡◌, ◌<◌, ◌≤◌, ◌==◌, IfOk, IfSome};
 ghost use Rattle.bit_blast.specs.Made.{Adds, IfFull, Overfills};
 ghost use Rattle.unroll_cnf.specs.Made.{word_at};
-ghost use Rattle.goal_cnf.specs.Activity.{as_pinned as as_asked, with_literal};
 ghost use Rattle.goal_cnf.specs.Made.{HasConditionBits, tag_of};
 ghost use Rattle.goal_cnf.specs.Observation as spec;
 
-use crate::place::bit;
+use crate::place::{as_asked, bit};
 use bit_blast::{BlastFault, Maker};
 use cnf_form::Lit;
 use dep_paths::Condition;
@@ -68,13 +67,6 @@ pub(crate) fn adds(form: Form, port: u8, first: bool) -> bool
         Form::Pre(_) => !first,
         _ => true,
     }
-}
-
-/// A bit where the value is true, and else its negation.
-fn as_asked(value: bool, bit: Lit) -> Lit
-    ensures { result ≡ as_asked value bit }
-{
-    if value { bit } else { bit.negated() }
 }
 
 /// `s`, and at the condition's port the operand's bit with the value besides.

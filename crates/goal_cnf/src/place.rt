@@ -120,8 +120,15 @@ fn condition(
     }
 }
 
+/// A bit where the value is true, and else its negation.
+pub(crate) fn as_asked(value: bool, bit: Lit) -> Lit
+    ensures { result ≡ spec.as_pinned value bit }
+{
+    if value { bit } else { bit.negated() }
+}
+
 /// `m`, and at the place of the pin what it asks of the edge's bit.
-#[tactic(auto, using(unroll_cnf::proofs::Placing::turned_below))]
+#[tactic(auto, using(crate::proofs::Passing::asked_below))]
 pub(crate) fn pinned(
     alloc: Global,
     maker: &mut Maker,
@@ -138,10 +145,7 @@ pub(crate) fn pinned(
     ensures more { maker.old.vars ≤ maker.new.vars }
 {
     match pin {
-        Some(pin) if place == pin.place => {
-            let asked = if pin.value { bit } else { bit.negated() };
-            maker.and_gate(alloc, m, asked)
-        }
+        Some(pin) if place == pin.place => maker.and_gate(alloc, m, as_asked(pin.value, bit)),
         _ => Ok(m),
     }
 }

@@ -97,6 +97,7 @@ pub fn unroll(alloc: Global, net: &Ordered, k: u32) -> Result<Unrolled, UnrollFa
     ensures vars { IfOk result (λ it. it.formula.vars ≤ 1 + k * costs net.now.network) }
     ensures words { IfOk result (λ it. All (AreWords net.now.network it.formula.vars) it.words) }
     ensures room { IfOk result (λ it. HasRoom it.formula 1) }
+    ensures size { IfOk result (λ _. size_of net.now.network k ≤ most_vars) }
     ensures large { most_vars < size_of net.now.network k
         → result ≡ Err (UnrollFault.TooLarge (size_of net.now.network k)) }
     ensures err { IfErr result (IsRefused net.now.network k) }
