@@ -95,8 +95,9 @@ impl Acts {
     /// Before instant 0, for a plan and the network whose plan it is: it stands for no frames.
     ///
     /// Takes all memory that it needs: 14 bytes for each different prefix of an obligation's path
-    /// with what is pinned on it, and more while it is made. More than 4,294,967,295 of them count
-    /// as want of memory. Linear in the lengths of the obligations' paths.
+    /// with what is pinned on it, 9 for each different last step of them, 8 for each obligation, and
+    /// more while it is made. More than 4,294,967,295 prefixes count as want of memory. Linear in
+    /// the lengths of the obligations' paths.
     #[tactic(auto, using(crate::proofs::Trees::made_for, crate::proofs::Actives::stands_for_none))]
     pub fn new(alloc: Global, net: &Network, plan: &Plan) -> Result<Acts, Memory>
         ensures made { IfOk result (IsMadeFor plan.now) }

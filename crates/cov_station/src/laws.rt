@@ -13,11 +13,15 @@ ghost use Rattle.cov_station.specs.declared.refusal.Refusal.{Refusal as Why};
 ghost use Rattle.cov_station.specs.declared.status.Status.{Status as End};
 ghost use Rattle.cov_words.specs.Jobs.{Asked, meaning};
 ghost use Rattle.cov_words.specs.declared.job.Verb.TheVariants as Verb;
-ghost use Rattle.dep_paths.specs.declared.limits.TheConstants.{MOST_OBLIGATIONS, MOST_PATHS};
+ghost use Rattle.cov_words.specs.declared.limits.TheConstants as words;
+ghost use Rattle.dep_paths.specs.declared.limits.TheConstants.{MOST_LENGTH, MOST_OBLIGATIONS};
+ghost use Rattle.dep_paths.specs.declared.limits.TheConstants.{MOST_PATHS};
 ghost use Rattle.lus_syntax.specs.declared.limits.TheConstants.{MOST_BYTES, MOST_COUNTED};
 ghost use Rattle.node_expand.specs.declared.limits.TheConstants.{MOST_DEPTH};
-ghost use Rattle.op_network.specs.declared.limits.TheConstants.{MOST_EDGES};
-ghost use Rattle.suite_file.specs.declared.limits.TheConstants.{MOST_INSTANTS, MOST_TESTS};
+ghost use Rattle.op_network.specs.declared.limits.TheConstants.{LEAST_WIDTH, MOST_EDGES};
+ghost use Rattle.op_network.specs.declared.limits.TheConstants.{MOST_NAMES, MOST_WIDTH};
+ghost use Rattle.suite_file.specs.declared.limits.TheConstants.{MOST_INSTANTS, MOST_NAME};
+ghost use Rattle.suite_file.specs.declared.limits.TheConstants.{MOST_TESTS};
 
 /// The words and the files determine the answer, but for reads that fail, and where the files are
 /// ready nothing else is refused. So two calls that are done put the same bytes. Does nothing: its
@@ -32,7 +36,8 @@ pub fn one_answer()
     ensures done { (words : Seq (Seq ℕ)) (told : Files) (old new old' new' : Outside) →
         Ends (station words (Some told)) old new End.Done →
         Ends (station words (Some told)) old' new' End.Done →
-        (out : Seq ℕ) × Appends old.written out new.written × Appends old'.written out new'.written }
+        (out : Seq ℕ) × Appends old.written out new.written
+        × Appends old'.written out new'.written }
 {}
 
 /// What `run` prints is determined by the source and the tests. Does nothing: its clause is the law.
@@ -93,4 +98,25 @@ pub fn numbers_of_limits()
     ensures tests { MOST_TESTS ≡ 210000 }
     ensures instants { MOST_INSTANTS ≡ 7400000 }
     ensures variables { most_vars ≡ 2000000 }
+    ensures path_edges { MOST_LENGTH ≡ 64 }
+    ensures narrowest { LEAST_WIDTH ≡ 2 }
+    ensures widest { MOST_WIDTH ≡ 32 }
+    ensures enumerators { MOST_NAMES ≡ 256 }
+    ensures name { MOST_NAME ≡ 64 }
+{}
+
+/// The ranges of the numbers among the words, and what they are where they aren't given. Does
+/// nothing: its clauses are the law.
+pub fn numbers_of_words()
+    ensures widths { (words.LEAST_WIDTH ≡ 2) × (words.MOST_WIDTH ≡ 32) }
+    ensures width { words.DEFAULT_WIDTH ≡ 32 }
+    ensures lengths { (words.LEAST_LENGTH ≡ 1) × (words.MOST_LENGTH ≡ 64) }
+    ensures length { words.DEFAULT_LENGTH ≡ 10 }
+    ensures instants { (words.LEAST_K ≡ 1) × (words.MOST_K ≡ 32) }
+    ensures k { words.DEFAULT_K ≡ 8 }
+    ensures budgets { words.MOST_BUDGET ≡ 100000 }
+    ensures budget { words.DEFAULT_BUDGET ≡ 20000 }
+    ensures least { words.LEAST_NUMBER ≡ 1 }
+    ensures obligation { words.MOST_OBLIGATION ≡ 4294967295 }
+    ensures size { words.MOST_SIZE ≡ 1000 }
 {}

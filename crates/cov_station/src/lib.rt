@@ -19,6 +19,8 @@ mod tests;
 mod top;
 mod words;
 
-pub use laws::{by_status, numbers_of_limits, one_answer, one_run, one_score, verify_means};
+pub use laws::{
+    by_status, numbers_of_limits, numbers_of_words, one_answer, one_run, one_score, verify_means,
+};
 pub use status::Status;
 pub use top::station;

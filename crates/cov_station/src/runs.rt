@@ -23,6 +23,7 @@ pub(crate) fn run_text(alloc: Global, net: &Ordered, tests: &[Test]) -> Result<L
     ensures { (source : Source) → IsNetworkOf source net.now →
         IfOk result (RunText source tests.now) }
 {
+    // what the network says of itself is known once it is read
     let _ = net.network().parts();
     network_text(alloc, net, tests)
 }

@@ -100,6 +100,7 @@ fn network_of(alloc: Global, typed: &Typed) -> Result<Network, Refusal>
     network_has_main_ports(typed);
     match expand(alloc, typed) {
         Ok(network) => {
+            // what the network says of itself is known once it is read
             let _ = network.parts();
             Ok(network)
         }

@@ -91,8 +91,8 @@ fn add_condition(net: &Network, port: Condition, found: &mut List<Condition>) ->
 /// Adds the conditions among the ports of an edge.
 fn add_conditions(net: &Network, edge: EdgeId, found: &mut List<Condition>) -> Result<(), Memory>
     requires { edge.0 < length net.now.edges }
-    ensures { OnOk result (found.new
-        ≡ found.old ++ filter (spec.is_condition net.now.edges) (spec.ports_of net.now.edges edge)) }
+    ensures { OnOk result (found.new ≡ found.old
+        ++ filter (spec.is_condition net.now.edges) (spec.ports_of net.now.edges edge)) }
 {
     for port in 0..net.ports(edge) {
         add_condition(net, Condition { edge, port }, found)?;

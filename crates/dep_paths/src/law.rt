@@ -6,13 +6,14 @@ ghost use Rattle.dep_paths.specs.Criteria.{FullImplies, LaterFramesChangeNothing
 ghost use Rattle.dep_paths.specs.Observed.{ReachIsPassedOn};
 ghost use Rattle.dep_paths.specs.Paths.{IsListOf, MoreThan};
 
-/// At most one list is that of a network.
+/// A network has at most one list of its complete paths of at most n edges. Does nothing: its clause
+/// is the law, as in the functions below.
 pub fn one_list()
     ensures { (net : Parts) (n : ℕ) (ps qs : Seq Path) → IsListOf net n ps → IsListOf net n qs →
         ps ≡ qs }
 {}
 
-/// Each network has such a list, for each length.
+/// Each network has a list of its complete paths of at most n edges, for each n.
 pub fn some_list()
     ensures { (net : Parts) (n : ℕ) → (ps : Seq Path) × IsListOf net n ps }
 {}

@@ -1,41 +1,48 @@
 use cov_base::List;
 use op_network::EdgeId;
 
-/// A step of a path: the edge that it enters, and the port by which, from 0. The operand at that
-/// port is the edge before.
+/// A step of a path: the edge that it enters, and the port by which, from 0 to 2. The operand at
+/// that port is the edge before.
 #[derive(Clone, Copy, Debug, PartialEq, Eq)]
 pub struct Step {
     pub edge: EdgeId,
     pub port: u8,
 }
 
-/// A path of a network: the edge at which it starts, and its steps.
+/// A path of a network: the edge at which it starts, and its steps. It has one edge more than
+/// steps.
 #[derive(Debug, Drop)]
 pub struct Path {
     pub start: EdgeId,
     pub steps: List<Step>,
 }
 
-/// A condition: a port of an edge.
+/// A condition: a port of an edge, from 0 to 2, at which the edge reads a truth.
 #[derive(Clone, Copy, Debug, PartialEq, Eq)]
 pub struct Condition {
     pub edge: EdgeId,
     pub port: u8,
 }
 
-/// A value at a place of a path, from 0.
+/// The truth that is asked for at a place of a path: 0 is its start, i the edge of its i-th step,
+/// counted from 1. A path of a plan has places up to 63.
 #[derive(Clone, Copy, Debug, PartialEq, Eq)]
 pub struct Pin {
     pub place: u8,
     pub value: bool,
 }
 
-/// A criterion: basic coverage, elementary conditions, multiple conditions or observable MC/DC.
+/// A criterion. The first three are after Lakehal and Parissis, the last one after Whalen, Gay, You,
+/// Heimdahl and Staats.
 #[derive(Clone, Copy, Debug, PartialEq, Eq)]
 pub enum Criterion {
+    /// Basic coverage: each path is activated.
     Bc,
+    /// Elementary conditions: with each truth of its first edge.
     Ecc,
+    /// Multiple conditions: with each truth of each edge on it.
     Mcc,
+    /// Observable MC/DC: each condition is observed with each truth.
     Omcdc,
 }
 
@@ -69,18 +76,20 @@ impl Obligation {
     }
 }
 
-/// How many of the obligations are covered, and how many there are.
+/// How many of a criterion's obligations are covered, and how many there are: at most 200,000.
 #[derive(Clone, Copy, Debug, PartialEq, Eq)]
 pub struct Score {
     pub covered: u32,
     pub total: u32,
 }
 
-/// Why there is no plan: more than 20,000 paths, more than 200,000 obligations, or want of
-/// memory.
+/// Why there is no plan.
 #[derive(Clone, Copy, Debug, PartialEq, Eq)]
 pub enum PlanFault {
+    /// There are more than `MOST_PATHS` paths.
     Paths,
+    /// There are no more paths, but more than `MOST_OBLIGATIONS` obligations.
     Obligations,
+    /// Memory is wanting.
     Memory,
 }

@@ -59,7 +59,8 @@ impl Plan {
         }
     }
 
-    /// The most edges that a path may have. Each plan is within its limits.
+    /// The most edges that a path may have. Each plan is within its limits. In constant time, as the
+    /// calls below.
     pub fn length(&self) -> u32
         ensures same { result ≡ self.now.length }
         ensures limits { IsWithinLimits self.now }

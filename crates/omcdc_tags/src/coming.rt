@@ -168,6 +168,7 @@ fn put_edge(
 fn sequence_of(net: &Ordered) -> &[EdgeId]
     ensures { IsInOrder net.now.network.edges result.now }
 {
+    // what the network says of itself is known once it is read
     let _parts = net.network().parts();
     net.sequence()
 }

@@ -51,6 +51,7 @@ pub(crate) fn count(net: &Network, ports: &[Condition], table: &[Option<u32>]) -
     ensures count { result ≡ length ports.now }
     ensures few { result ≤ MOST_PORTS }
 {
+    // what the network says of itself is known once it is read
     let _parts = net.parts();
     ports.len() as u32
 }

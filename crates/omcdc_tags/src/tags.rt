@@ -95,8 +95,8 @@ impl Tags {
 
     /// Before instant 0, for a plan and the network whose plan it is: it stands for no frames.
     ///
-    /// Takes all memory that it needs, which is four bits for each edge and condition; `Memory`
-    /// comes for want of it alone.
+    /// Takes all memory that it needs, which is four bits for each edge and condition and 24 bytes
+    /// for each edge; `Memory` comes for want of it alone.
     pub fn new(alloc: Global, net: &Ordered, plan: &Plan) -> Result<Tags, Memory>
         ensures made { IfOk result (IsMadeFor net.now.network plan.now) }
         ensures stands { IfOk result (StandsFor net.now.network []) }
@@ -119,7 +119,7 @@ impl Tags {
     /// that the frame lacks counts as false.
     ///
     /// For each port of each edge a row is joined to another, 64 bits at once, and a row has two
-    /// bits for each condition. So the cost is about edges times conditions / 32. No memory is
+    /// bits for each condition. So the cost is about ports times conditions / 32. No memory is
     /// taken.
     #[tactic(auto, using(crate::proofs::Telling::still_made))]
     pub fn step(&mut self, net: &Ordered, plan: &Plan, frame: &Frame)

@@ -13,6 +13,6 @@ mod table;
 mod watch;
 
 pub use fault::{AddCause, AddFault, NotKept};
-pub use laws::{full_scores_imply, one_list_of_runs};
+pub use laws::{full_scores_imply, numbers_of_tables, one_list_of_runs};
 pub use limits::{MOST_INSTANTS, MOST_TESTS};
 pub use table::Table;

@@ -41,6 +41,7 @@ fn mark_all(watch: &Watch, plan: &Plan, covered: &mut BitRow)
         frames ≢ [] → (k : ℕ) → let bit = slice_index_or covered.old k false in
         MarksLast parts plan.now frames k bit (slice_index_or covered.new k false) }
 {
+    // what the plan says of itself is known once it is read
     let _ = plan.length();
     let count = plan.duties().len() as u32;
     for o in 0..count {
@@ -68,6 +69,7 @@ pub(crate) fn run_test<L: Ledger>(
     ensures made { IsWatchFor net.now.network plan.now watch.new }
     ensures cost { steps.new ≤ steps.old + test.now.instants }
 {
+    // what the network and the plan say of themselves is known once they are read
     let width = net.network().parts().inputs.len();
     let _ = net.sequence();
     let mut runner = Runner::new(alloc, net)?;

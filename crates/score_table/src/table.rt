@@ -60,6 +60,7 @@ impl Table {
         ensures network { IfErr result (λ back. back.0 ≡ network) }
         ensures plan { IfErr result (λ back. back.1 ≡ plan) }
     {
+        // what the network and the plan say of themselves is known once they are read
         let _ = network.sequence();
         let _ = network.network().parts();
         let Ok(watch) = Watch::new(alloc, &network, &plan) else {
@@ -84,8 +85,8 @@ impl Table {
     /// test.
     ///
     /// Linear in the instants times the paths' prefixes, the obligations, and the edges with the
-    /// conditions, 32 at a time, and logarithmic in the number of tests. The frames are not kept,
-    /// and all memory is taken before the table changes.
+    /// conditions, 32 at a time, and logarithmic in the number of tests. A bit for each obligation
+    /// is kept, and the name twice, but no frames; all memory is taken before the table changes.
     pub fn add<L: Ledger>(
         &mut self,
         alloc: Global,
@@ -142,6 +143,7 @@ impl Table {
     pub fn score(&self, criterion: Criterion) -> Score
         ensures { OfRuns self.now (λ runs. result ≡ score_of self.now.plan runs criterion) }
     {
+        // what the plan says of itself is known once it is read
         let _ = self.plan.length();
         score_in(self.plan.duties(), &self.kept.covered, criterion)
     }
@@ -166,7 +168,7 @@ impl Table {
     }
 
     /// The tests that are kept, in the order in which they were added. No two of them have one
-    /// name.
+    /// name. In constant time.
     pub fn tests(&self) -> &[Test]
         ensures same { result.now ≡ self.now.tests }
         ensures fit { All (FitsTest self.now.network.network) self.now.tests }

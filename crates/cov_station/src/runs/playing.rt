@@ -69,6 +69,7 @@ fn play_instant<L: Ledger>(
     ensures size { length playing.new.runner.frame ≡ length net.now.network.edges }
 {
     one_run();
+    // what the network says of itself is known once it is read
     let _ = net.sequence();
     let outputs = net.network().parts().outputs.as_slice();
     playing.runner.step(net, inputs, steps);

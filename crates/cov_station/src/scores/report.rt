@@ -52,6 +52,7 @@ fn add_if_missing(numbers: &mut List<u32>, table: &Table, o: u32) -> Result<(), 
     if table.covered(o) {
         return Ok(());
     }
+    // what the plan says of itself is known once it is read
     let _ = table.plan().length();
     numbers.add(o + 1)
 }
@@ -62,6 +63,7 @@ fn missing(alloc: Global, table: &Table) -> Result<List<u32>, Memory>
         numbers ≡ missing_numbers table.now.plan runs)) }
 {
     let mut numbers = List::new(alloc);
+    // what the plan says of itself is known once it is read
     let _ = table.plan().length();
     for o in 0..table.plan().duties().len() as u32 {
         add_if_missing(&mut numbers, table, o)?;
@@ -77,6 +79,7 @@ pub(crate) fn json_of(alloc: Global, table: &Table) -> Result<List<u8>, Memory>
     ensures { IfOk result
         (NetworkScore table.now.network.network table.now.plan table.now.tests true) }
 {
+    // what the table says of itself is known once it is read
     let _ = table.tests();
     let rows = test_rows(alloc, table)?;
     let missing = missing(alloc, table)?;

@@ -31,6 +31,7 @@ pub(crate) fn scores_in(table: &Table) -> [Score; 4]
     ensures scores { OfRuns table.now (λ runs. result ≡ scores_of table.now.plan runs) }
     ensures within { All IsWithin result }
 {
+    // what the table says of itself is known once it is read
     let _ = table.tests();
     [
         table.score(Criterion::Bc),
@@ -65,6 +66,7 @@ fn push_missing_lines(text: &mut List<u8>, table: &Table) -> Result<(), Memory>
     ensures { let edges = table.now.network.network.edges in OnOk result (OfRuns table.now (λ runs.
         text.new ≡ text.old ++ missing_lines edges table.now.plan runs)) }
 {
+    // what the plan says of itself is known once it is read
     let _ = table.plan().length();
     for o in 0..table.plan().duties().len() as u32 {
         push_if_missing(text, table, o)?;
@@ -80,6 +82,7 @@ pub(crate) fn text_of(alloc: Global, table: &Table) -> Result<List<u8>, Memory>
         (NetworkScore table.now.network.network table.now.plan table.now.tests false) }
 {
     let mut text = List::new(alloc);
+    // what the table says of itself is known once it is read
     let _ = table.tests();
     push_test_lines(&mut text, table)?;
     push_score_lines(&mut text, table)?;

@@ -1,4 +1,4 @@
-//! Both sides of each limit.
+//! Limits, those of sources and of paths on both sides.
 
 use super::{EDGE, command, expect, refused, repeated, run, score};
 use crate::Status;

@@ -204,8 +204,12 @@ missing 14 MCC x > y:1 at 1 false
 missing 16 OMCDC y:0 false
 missing 18 OMCDC y:1 false
 ",
-    )?;
-    // Where x is true and z is not, only the path from z is active.
+    )
+}
+
+/// Where x is true and z is not, only the path from z is active.
+#[test]
+fn the_operand_that_decides_is_covered(rt: HostRuntime) -> Result<(), Fail> {
     score(
         &rt,
         b"node b(x, z: bool) returns (y: bool); let y = x and z; tel",
