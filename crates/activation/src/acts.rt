@@ -95,9 +95,9 @@ impl Acts {
     /// Before instant 0, for a plan and the network whose plan it is: it stands for no frames.
     ///
     /// Takes all memory that it needs: 14 bytes for each different prefix of an obligation's path
-    /// with what is pinned on it, 9 for each different last step of them, 8 for each obligation, and
-    /// more while it is made. More than 4,294,967,295 prefixes count as want of memory. Linear in
-    /// the lengths of the obligations' paths.
+    /// with what is pinned on it, 9 for each different last step of them, 8 for each obligation,
+    /// and more while it is made. More than 4,294,967,295 prefixes count as want of memory. Linear
+    /// in the lengths of the obligations' paths.
     #[tactic(auto, using(crate::proofs::Trees::made_for, crate::proofs::Actives::stands_for_none))]
     pub fn new(alloc: Global, net: &Network, plan: &Plan) -> Result<Acts, Memory>
         ensures made { IfOk result (IsMadeFor plan.now) }
@@ -117,8 +117,8 @@ impl Acts {
     }
 
     /// Takes the next frame. What it stood for, over the operators of this network, it stands for
-    /// with the frame at the end; a value that the frame lacks counts as false. Linear in the number
-    /// of different prefixes with their pins; takes no memory.
+    /// with the frame at the end; a value that the frame lacks counts as false. Linear in the
+    /// number of different prefixes with their pins; takes no memory.
     #[tactic(auto, using(crate::proofs::Places::same_gates))]
     pub fn step(&mut self, net: &Network, plan: &Plan, frame: &Frame)
         ensures stands { StepsBy net.now.edges frame.now self.old self.new }

@@ -16,9 +16,9 @@ use cov_base::List;
 use std::alloc::Global;
 
 impl Maker {
-    /// The sum, wrapped to the bits of the words. The words have one size of at least one bit, and their literals are
-    /// below the formula's variables. Answers `Full` exactly where the variables would pass 2,000,000. The cost is
-    /// linear in the bits.
+    /// The sum, wrapped to the bits of the words. The words have one size of at least one bit, and
+    /// their literals are below the formula's variables. Answers `Full` exactly where the variables
+    /// would pass 2,000,000. The cost is linear in the bits.
     #[tactic(auto, using(crate::proofs::Laws::add_law, crate::proofs::Laws::room_kept))]
     pub fn add(&mut self, alloc: Global, a: &Word, b: &Word) -> Result<Word, BlastFault>
         requires size { length a.now ≡ length b.now }
@@ -37,9 +37,9 @@ impl Maker {
         self.sum(alloc, a.as_slice(), b.as_slice(), no)
     }
 
-    /// The difference, wrapped to the bits of the words. The words have one size of at least one bit, and their
-    /// literals are below the formula's variables. Answers `Full` exactly where the variables would pass 2,000,000. The
-    /// cost is linear in the bits.
+    /// The difference, wrapped to the bits of the words. The words have one size of at least one
+    /// bit, and their literals are below the formula's variables. Answers `Full` exactly where the
+    /// variables would pass 2,000,000. The cost is linear in the bits.
     #[tactic(auto, using(crate::proofs::Laws::subtract_law, crate::proofs::Laws::room_kept, crate::proofs::Laws::length_inverted, crate::proofs::Laws::inverted_below))]
     pub fn subtract(&mut self, alloc: Global, a: &Word, b: &Word) -> Result<Word, BlastFault>
         requires size { length a.now ≡ length b.now }
@@ -60,9 +60,9 @@ impl Maker {
         Ok(difference)
     }
 
-    /// The negation, wrapped to the bits of the word. The word has at least one bit, and its literals are below the
-    /// formula's variables. Answers `Full` exactly where the variables would pass 2,000,000. The cost is linear in the
-    /// bits.
+    /// The negation, wrapped to the bits of the word. The word has at least one bit, and its
+    /// literals are below the formula's variables. Answers `Full` exactly where the variables would
+    /// pass 2,000,000. The cost is linear in the bits.
     #[tactic(auto, using(crate::proofs::Laws::negate_law, crate::proofs::Laws::room_kept, crate::proofs::Laws::length_inverted, crate::proofs::Laws::length_nothing, crate::proofs::Laws::inverted_below, crate::proofs::Laws::nothing_below))]
     pub fn negate(&mut self, alloc: Global, a: &Word) -> Result<Word, BlastFault>
         requires a { IsBelow self.old.vars a.now }

@@ -22,8 +22,9 @@ fn either(first: bool, a: Lit, b: Lit) -> Lit
 }
 
 impl Maker {
-    /// Whether two words are equal. They have one size of at least one bit, and their literals are below the formula's
-    /// variables. Answers `Full` exactly where the variables would pass 2,000,000. The cost is linear in the bits.
+    /// Whether two words are equal. They have one size of at least one bit, and their literals are
+    /// below the formula's variables. Answers `Full` exactly where the variables would pass
+    /// 2,000,000. The cost is linear in the bits.
     #[tactic(auto, using(crate::proofs::Laws::room_kept))]
     pub fn equal(&mut self, alloc: Global, a: &Word, b: &Word) -> Result<Lit, BlastFault>
         requires size { length a.now ≡ length b.now }
@@ -42,9 +43,9 @@ impl Maker {
         Ok(same)
     }
 
-    /// Whether the first word is less than the second, as numbers with a sign. The words have one size of at least one
-    /// bit, and their literals are below the formula's variables. Answers `Full` exactly where the variables would pass
-    /// 2,000,000. The cost is linear in the bits.
+    /// Whether the first word is less than the second, as numbers with a sign. The words have one
+    /// size of at least one bit, and their literals are below the formula's variables. Answers
+    /// `Full` exactly where the variables would pass 2,000,000. The cost is linear in the bits.
     #[tactic(auto, using(crate::proofs::Laws::less_law, crate::proofs::Laws::room_kept))]
     pub fn less(&mut self, alloc: Global, a: &Word, b: &Word) -> Result<Lit, BlastFault>
         requires size { length a.now ≡ length b.now }
@@ -116,8 +117,8 @@ impl Maker {
         self.and_gate(alloc, before, no(x.var))
     }
 
-    /// Whether a word is less than another one at a bit, behind the bits before: where the words differ there, the chosen
-    /// literal.
+    /// Whether a word is less than another one at a bit, behind the bits before: where the words
+    /// differ there, the chosen literal.
     fn less_bit(
         &mut self,
         alloc: Global,

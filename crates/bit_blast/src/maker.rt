@@ -21,11 +21,12 @@ const MOST_VARS: u32 = 2_000_000;
 
 /// A formula under construction, whose variable 0 is true in every model.
 ///
-/// A gate takes the next variable as its result and adds the clauses by which it has the gate's value. So each
-/// assignment that satisfied the formula before extends to one that satisfies it after, and a word that a call
-/// answers is the operator's answer in each of them. A call that is refused may leave further gates, which constrain no
-/// old variable. A gate adds at most 16 clauses for each variable that it adds; a maker has at most 100,000,000 clauses
-/// and 16 for each variable besides.
+/// A gate takes the next variable as its result and adds the clauses by which it has the gate's
+/// value. So each assignment that satisfied the formula before extends to one that satisfies it
+/// after, and a word that a call answers is the operator's answer in each of them. A call that is
+/// refused may leave further gates, which constrain no old variable. A gate adds at most 16 clauses
+/// for each variable that it adds; a maker has at most 100,000,000 clauses and 16 for each variable
+/// besides.
 #[derive(Debug, Drop)]
 pub struct Maker {
     formula: Formula,
@@ -94,7 +95,8 @@ impl Maker {
         Ok(Maker { formula })
     }
 
-    /// A copy, equal to this maker, or `Memory` for want of it. The cost is linear in the literals of the formula.
+    /// A copy, equal to this maker, or `Memory` for want of it. The cost is linear in the literals
+    /// of the formula.
     pub fn copy(&self, alloc: Global) -> Result<Maker, Memory>
         ensures { IfOk result (λ copy. copy ≡ self.now) }
     {
@@ -138,8 +140,9 @@ impl Maker {
         formula
     }
 
-    /// Adds a clause, or gives it back for want of memory. Its literals are below the formula's variables, and the
-    /// formula has fewer than 100,000,000 clauses. Constant time over many calls.
+    /// Adds a clause, or gives it back for want of memory. Its literals are below the formula's
+    /// variables, and the formula has fewer than 100,000,000 clauses. Constant time over many
+    /// calls.
     #[tactic(auto, using(crate::proofs::Gates::required_made))]
     pub fn require(&mut self, clause: Clause) -> Result<(), Clause>
         requires inside { IsTrue (below self.old.vars clause) }
@@ -190,8 +193,9 @@ impl Maker {
         Ok(yes(var))
     }
 
-    /// The gate that is true where both literals are. The literals are below the formula's variables. Answers `Full`
-    /// exactly where the formula has 2,000,000 variables. Constant time over many calls.
+    /// The gate that is true where both literals are. The literals are below the formula's
+    /// variables. Answers `Full` exactly where the formula has 2,000,000 variables. Constant time
+    /// over many calls.
     #[tactic(auto, using(crate::proofs::Laws::and_value))]
     pub fn and_gate(&mut self, alloc: Global, a: Lit, b: Lit) -> Result<Lit, BlastFault>
         requires a { a.var < self.old.vars }
@@ -208,8 +212,9 @@ impl Maker {
         self.gate(alloc, Gate::And(a, b))
     }
 
-    /// The gate that is true where one of the literals is, or both. The literals are below the formula's variables.
-    /// Answers `Full` exactly where the formula has 2,000,000 variables. Constant time over many calls.
+    /// The gate that is true where one of the literals is, or both. The literals are below the
+    /// formula's variables. Answers `Full` exactly where the formula has 2,000,000 variables.
+    /// Constant time over many calls.
     #[tactic(auto, using(crate::proofs::Laws::or_value))]
     pub fn or_gate(&mut self, alloc: Global, a: Lit, b: Lit) -> Result<Lit, BlastFault>
         requires a { a.var < self.old.vars }
@@ -226,8 +231,9 @@ impl Maker {
         self.gate(alloc, Gate::Or(a, b))
     }
 
-    /// The gate that is true where just one of the literals is. The literals are below the formula's variables.
-    /// Answers `Full` exactly where the formula has 2,000,000 variables. Constant time over many calls.
+    /// The gate that is true where just one of the literals is. The literals are below the
+    /// formula's variables. Answers `Full` exactly where the formula has 2,000,000 variables.
+    /// Constant time over many calls.
     #[tactic(auto, using(crate::proofs::Laws::xor_value))]
     pub fn xor_gate(&mut self, alloc: Global, a: Lit, b: Lit) -> Result<Lit, BlastFault>
         requires a { a.var < self.old.vars }

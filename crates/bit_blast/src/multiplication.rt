@@ -16,9 +16,9 @@ use cov_base::List;
 use std::alloc::Global;
 
 impl Maker {
-    /// The product, wrapped to the bits of the words. The words have one size of at least one bit, and their literals
-    /// are below the formula's variables. Answers `Full` exactly where the variables would pass 2,000,000. The cost is
-    /// quadratic in the bits.
+    /// The product, wrapped to the bits of the words. The words have one size of at least one bit,
+    /// and their literals are below the formula's variables. Answers `Full` exactly where the
+    /// variables would pass 2,000,000. The cost is quadratic in the bits.
     #[tactic(auto, using(crate::proofs::Laws::multiply_law, crate::proofs::Laws::room_kept))]
     pub fn multiply(&mut self, alloc: Global, a: &Word, b: &Word) -> Result<Word, BlastFault>
         requires size { length a.now ≡ length b.now }

@@ -15,8 +15,8 @@ use cov_base::List;
 use std::alloc::Global;
 
 impl Maker {
-    /// A word of so many free variables, which nothing constrains. Answers `Full` exactly where the variables would
-    /// pass 2,000,000. The cost is linear in the bits.
+    /// A word of so many free variables, which nothing constrains. Answers `Full` exactly where the
+    /// variables would pass 2,000,000. The cost is linear in the bits.
     #[tactic(auto, using(crate::proofs::Laws::room_kept))]
     pub fn fresh(&mut self, alloc: Global, bits: u32) -> Result<Word, BlastFault>
         ensures made { IfOk result (Adds self.old self.new (λ n. op.fresh n bits)) }
@@ -36,9 +36,9 @@ impl Maker {
         Ok(word)
     }
 
-    /// The first word where the literal is true, else the second. The words have one size, and all literals are below
-    /// the formula's variables. Answers `Full` exactly where the variables would pass 2,000,000. The cost is linear in
-    /// the bits.
+    /// The first word where the literal is true, else the second. The words have one size, and all
+    /// literals are below the formula's variables. Answers `Full` exactly where the variables would
+    /// pass 2,000,000. The cost is linear in the bits.
     #[tactic(auto, using(crate::proofs::Laws::ite_law, crate::proofs::Laws::room_kept))]
     pub fn ite_word(
         &mut self,

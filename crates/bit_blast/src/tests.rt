@@ -137,8 +137,8 @@ fn satisfies(assignment: u128, clauses: &[&Clause]) -> bool {
     clauses.iter().all(|clause| clause.lits().iter().any(|lit| is_true(assignment, *lit)))
 }
 
-/// The assignments of the variables of a formula, at most 128, that satisfy it, where those of the first `known`
-/// variables are given by `first`.
+/// The assignments of the variables of a formula, at most 128, that satisfy it, where those of the
+/// first `known` variables are given by `first`.
 fn models(
     alloc: Global,
     formula: &Formula,

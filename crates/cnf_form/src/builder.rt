@@ -46,8 +46,8 @@ impl ClauseBuilder {
         self.lits.as_slice()
     }
 
-    /// Adds a literal at the end, where it isn't among them, or answers `Memory` for want of it. Constant time over
-    /// many calls.
+    /// Adds a literal at the end, where it isn't among them, or answers `Memory` for want of it.
+    /// Constant time over many calls.
     pub fn add(&mut self, lit: Lit) -> Result<(), Memory>
         ensures ok { OnOk result (self.new ≡ with_lit lit self.old) }
         ensures err { OnErr result (self.new ≡ self.old) }
@@ -66,8 +66,8 @@ impl ClauseBuilder {
         }
     }
 
-    /// Hands the clause out and begins the next one, or answers `Memory` for want of it. The clause takes no more room
-    /// than its literals. The cost is linear in the literals.
+    /// Hands the clause out and begins the next one, or answers `Memory` for want of it. The clause
+    /// takes no more room than its literals. The cost is linear in the literals.
     pub fn finish(&mut self, alloc: Global) -> Result<Clause, Memory>
         ensures clause { IfOk result (λ clause. clause ≡ self.old) }
         ensures ok { OnOk result (self.new ≡ []) }

@@ -5,7 +5,8 @@ use crate::lit::Lit;
 use cov_base::List;
 use std::marker::Model;
 
-/// Literals, none of them twice. An assignment satisfies a clause where one of its literals is true.
+/// Literals, none of them twice. An assignment satisfies a clause where one of its literals is
+/// true.
 #[derive(Debug, Drop)]
 pub struct Clause {
     lits: List<Lit>,

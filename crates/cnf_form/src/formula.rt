@@ -8,8 +8,8 @@ use cov_base::List;
 use std::alloc::Global;
 use std::marker::Model;
 
-/// Clauses over variables 0 to `vars` - 1: at most 2,000,000 variables and at most 200,000,000 clauses, each literal of
-/// which is of one of the variables.
+/// Clauses over variables 0 to `vars` - 1: at most 2,000,000 variables and at most 200,000,000
+/// clauses, each literal of which is of one of the variables.
 #[derive(Debug, Drop)]
 pub struct Formula {
     vars: u32,
@@ -28,7 +28,8 @@ impl Model for Formula {
 }
 
 impl Formula {
-    /// A formula of at most 2,000,000 variables without clauses, which takes no memory. Constant time.
+    /// A formula of at most 2,000,000 variables without clauses, which takes no memory. Constant
+    /// time.
     pub fn new(alloc: Global, vars: u32) -> Formula
         requires { vars ≤ most_vars }
         ensures { result ≡ record { vars = vars; clauses = [] } }
@@ -64,8 +65,9 @@ impl Formula {
         self.vars = vars;
     }
 
-    /// Adds a clause at the end, or gives it back for want of memory. Its literals are of the formula's variables, which
-    /// has fewer than 200,000,000 clauses. Constant time over many calls.
+    /// Adds a clause at the end, or gives it back for want of memory. Its literals are of the
+    /// formula's variables, which has fewer than 200,000,000 clauses. Constant time over many
+    /// calls.
     pub fn push(&mut self, clause: Clause) -> Result<(), Clause>
         requires inside { IsTrue (below self.old.vars clause) }
         requires few { length self.old.clauses < most_clauses }

@@ -91,7 +91,8 @@ fn front_word(text: &[u8]) -> (&[u8], &[u8])
     text.split_at(word_len(text))
 }
 
-/// The first word of a line, if it has one, and the line behind it. The cost is linear in the bytes up to there.
+/// The first word of a line, if it has one, and the line behind it. The cost is linear in the bytes
+/// up to there.
 #[tactic(auto, using(crate::proofs::Cuts::blank_first))]
 pub fn next_word(line: &[u8]) -> Option<(&[u8], &[u8])>
     ensures none { IfNone result (words line.now ≡ []) }
@@ -118,8 +119,8 @@ pub(crate) fn is_comment(line: &[u8]) -> bool
     }
 }
 
-/// Whether a line is a comment, which begins with `c`, or has no words. The cost is linear in its bytes up to the first
-/// word.
+/// Whether a line is a comment, which begins with `c`, or has no words. The cost is linear in its
+/// bytes up to the first word.
 pub fn is_skipped(line: &[u8]) -> bool
     ensures { result ≡ skipped line.now }
 {

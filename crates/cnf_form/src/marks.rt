@@ -5,8 +5,8 @@ use crate::lit::Lit;
 use cov_base::Memory;
 use std::alloc::Global;
 
-/// Marks on literals, which are all taken off in constant time: a literal is marked where the stamp at its place is the
-/// stamp of now.
+/// Marks on literals, which are all taken off in constant time: a literal is marked where the stamp
+/// at its place is the stamp of now.
 #[derive(Debug, Drop)]
 pub struct Marks {
     stamps: Vec<u32>,
@@ -42,8 +42,9 @@ impl Marks {
         }
     }
 
-    /// Marks a literal, or answers `Memory` for want of it. Constant time over many calls, but that the first mark on a
-    /// variable greater than all before takes time linear in the variables that it passes.
+    /// Marks a literal, or answers `Memory` for want of it. Constant time over many calls, but that
+    /// the first mark on a variable greater than all before takes time linear in the variables that
+    /// it passes.
     #[tactic(auto, using(crate::proofs::MarkFacts::stamp_facts))]
     pub fn mark(&mut self, lit: Lit) -> Result<(), Memory>
         ensures ok { OnOk result (marked self.new ≡ with_mark lit (marked self.old)) }

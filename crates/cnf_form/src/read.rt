@@ -113,7 +113,8 @@ impl Reading {
         Ok(())
     }
 
-    /// The formula at the end of the text, which has that many lines and is to have that many clauses.
+    /// The formula at the end of the text, which has that many lines and is to have that many
+    /// clauses.
     fn finish(self, count: u32, number: u32) -> Result<Formula, DimacsFault>
         ensures { result ≡ formula_at_end count number self }
     {
@@ -212,9 +213,9 @@ fn read_behind(
     read_clauses(alloc, header, number, later)
 }
 
-/// The formula of a text of at most 268,435,456 bytes in DIMACS CNF, or the first fault of the text, or `Memory`, at
-/// any time, for want of it. A literal that a clause has already is dropped. The cost is linear in the bytes and the
-/// variables.
+/// The formula of a text of at most 268,435,456 bytes in DIMACS CNF, or the first fault of the
+/// text, or `Memory`, at any time, for want of it. A literal that a clause has already is dropped.
+/// The cost is linear in the bytes and the variables.
 pub fn read_dimacs(alloc: Global, bytes: &[u8]) -> Result<Formula, DimacsFault>
     requires { length bytes.now ≤ most_bytes }
     ensures ok { IfOk result (λ formula. formula_of bytes.now ≡ Ok formula) }

@@ -9,8 +9,8 @@ use crate::formula::Formula;
 use crate::lit::Lit;
 use cov_base::{List, Memory, push_decimal};
 
-/// Adds the number of a literal at the end: that of its variable, from 1, after `-` where it is negative. Answers
-/// `Memory` for want of it. Constant time over many calls.
+/// Adds the number of a literal at the end: that of its variable, from 1, after `-` where it is
+/// negative. Answers `Memory` for want of it. Constant time over many calls.
 #[tactic(auto, using(crate::proofs::Writes::signed_positive, crate::proofs::Writes::signed_negative))]
 pub fn push_lit(out: &mut List<u8>, lit: Lit) -> Result<(), Memory>
     ensures ok { OnOk result (out.new ≡ out.old ++ lit_text lit) }
@@ -72,8 +72,9 @@ fn push_formula(out: &mut List<u8>, formula: &Formula) -> Result<(), Memory>
     push_clauses(out, formula.clauses())
 }
 
-/// Adds the text of a formula in DIMACS CNF at the end: the header, and one clause per line. Answers `Memory` for want of
-/// it, and `out` is then as before. The cost is linear in the text, over many calls.
+/// Adds the text of a formula in DIMACS CNF at the end: the header, and one clause per line.
+/// Answers `Memory` for want of it, and `out` is then as before. The cost is linear in the text,
+/// over many calls.
 pub fn write_dimacs(formula: &Formula, out: &mut List<u8>) -> Result<(), Memory>
     ensures ok { OnOk result (out.new ≡ out.old ++ formula_text formula.now) }
     ensures err { OnErr result (out.new ≡ out.old) }

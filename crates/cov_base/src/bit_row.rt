@@ -28,8 +28,8 @@ impl Model for BitRow {
 }
 
 impl BitRow {
-    /// A row of this many bits, all false, or `Memory` for want of it. No other call takes memory. The cost is linear in
-    /// the words.
+    /// A row of this many bits, all false, or `Memory` for want of it. No other call takes memory.
+    /// The cost is linear in the words.
     #[tactic(auto, using(crate::proofs::BitRows::row_of_zeros))]
     pub fn new(alloc: Global, bits: u32) -> Result<BitRow, Memory>
         ensures { IfOk result (λ row. row ≡ replicate bits false) }
@@ -56,7 +56,8 @@ impl BitRow {
         set(&mut self.words, i as usize);
     }
 
-    /// Makes each bit true that is true in another row of as many bits. The cost is linear in the words.
+    /// Makes each bit true that is true in another row of as many bits. The cost is linear in the
+    /// words.
     #[tactic(auto, using(crate::proofs::BitRows::row_length, crate::proofs::BitRows::row_after_join))]
     pub fn or_with(&mut self, other: &BitRow)
         requires { length self.old ≡ length other.now }

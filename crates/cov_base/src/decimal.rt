@@ -6,8 +6,8 @@ use crate::list::List;
 use crate::memory::Memory;
 use itoa::Buffer;
 
-/// Adds a number at the end, in decimal digits after `-` where it is below 0, or answers `Memory` for want of it. The cost
-/// is linear in the digits, over many calls.
+/// Adds a number at the end, in decimal digits after `-` where it is below 0, or answers `Memory`
+/// for want of it. The cost is linear in the digits, over many calls.
 pub fn push_decimal(out: &mut List<u8>, n: i64) -> Result<(), Memory>
     ensures ok { OnOk result (out.new ≡ out.old ++ signed_decimal n) }
     ensures err { OnErr result (out.new ≡ out.old) }
@@ -16,8 +16,9 @@ pub fn push_decimal(out: &mut List<u8>, n: i64) -> Result<(), Memory>
     out.extend_from_slice(buffer.format(n).as_bytes())
 }
 
-/// Adds at the end how much of `total` is `covered`, in percent rounded down to tenths, as `81.2%`, or `-` where `total`
-/// is 0. `covered` is at most `total`. Answers `Memory` for want of it. Constant time over many calls.
+/// Adds at the end how much of `total` is `covered`, in percent rounded down to tenths, as `81.2%`,
+/// or `-` where `total` is 0. `covered` is at most `total`. Answers `Memory` for want of it.
+/// Constant time over many calls.
 pub fn push_percent(out: &mut List<u8>, covered: u32, total: u32) -> Result<(), Memory>
     requires { covered ≤ total }
     ensures ok { OnOk result (out.new ≡ out.old ++ percent covered total) }

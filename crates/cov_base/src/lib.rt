@@ -1,5 +1,5 @@
-//! What every crate of the station stands on: lists and texts that contracts see as plain lists, and the stores
-//! and sinks through which it reaches the outside.
+//! What every crate of the station stands on: lists and texts that contracts see as plain lists,
+//! and the stores and sinks through which it reaches the outside.
 #![tactic(auto)]
 
 mod bit_row;

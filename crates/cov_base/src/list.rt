@@ -86,8 +86,8 @@ impl<T> List<T> {
 }
 
 impl<T: Copy> List<T> {
-    /// Adds a copy of each item at the end, or answers `Memory` for want of it. The cost is linear in the new items,
-    /// over many calls.
+    /// Adds a copy of each item at the end, or answers `Memory` for want of it. The cost is linear
+    /// in the new items, over many calls.
     pub fn extend_from_slice(&mut self, items: &[T]) -> Result<(), Memory>
         ensures ok { OnOk result (self.new ≡ self.old ++ items.now) }
         ensures err { OnErr result (self.new ≡ self.old) }
@@ -98,8 +98,8 @@ impl<T: Copy> List<T> {
 }
 
 impl<T: Drop> List<T> {
-    /// Adds an item at the end. Answers `Memory` for want of it: the list is then as before, and the item is
-    /// dropped. Constant time over many calls.
+    /// Adds an item at the end. Answers `Memory` for want of it: the list is then as before, and
+    /// the item is dropped. Constant time over many calls.
     pub fn add(&mut self, item: T) -> Result<(), Memory>
         ensures ok { OnOk result (self.new ≡ self.old ++ item ∷ []) }
         ensures err { OnErr result (self.new ≡ self.old) }

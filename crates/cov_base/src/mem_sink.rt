@@ -13,8 +13,8 @@ use std::alloc::Global;
 /// The greatest number of bytes that a `MemSink` holds: 16 MiB.
 const ROOM: usize = 0x100_0000;
 
-/// A sink in memory, which tells its bytes. It fails the puts that it is told to fail, and each put once it holds
-/// 16 MiB. A put of an empty piece is not counted.
+/// A sink in memory, which tells its bytes. It fails the puts that it is told to fail, and each put
+/// once it holds 16 MiB. A put of an empty piece is not counted.
 #[derive(Drop)]
 pub struct MemSink {
     bytes: Vec<u8>,
@@ -29,8 +29,9 @@ pub struct MemSink {
 impl MemSink {
     ghost use Rattle.cov_base.specs.MemSink.{written_of, faults_of, chunk_of, plan_of};
 
-    /// An empty sink that takes at most `chunk` bytes in one put, and fails the puts of these numbers, from 0; from
-    /// 2^32 - 1 on the number stays. All its memory, 16 MiB, is taken here, or the answer is `Memory`; a put takes none.
+    /// An empty sink that takes at most `chunk` bytes in one put, and fails the puts of these
+    /// numbers, from 0; from 2^32 - 1 on the number stays. All its memory, 16 MiB, is taken here,
+    /// or the answer is `Memory`; a put takes none.
     pub fn new(alloc: Global, chunk: usize, failing: List<u32>) -> Result<MemSink, Memory>
         requires { 1 ≤ chunk }
         ensures written { IfOk result (λ sink. written_of sink ≡ Some []) }
@@ -62,7 +63,8 @@ impl Sink for MemSink {
     ghost faults = { faults_of };
 
     fn put(&mut self, piece: &[u8]) -> Result<usize, SinkFailed>
-        // What each sink promises, repeated since a method with clauses of its own shows these alone.
+        // What each sink promises, repeated since a method with clauses of its own shows these
+        // alone.
         ensures empty { piece.now ≡ [] → result ≡ Ok 0 }
         ensures some { IfOk result (λ n. 0 < length piece.now → 0 < n) }
         ensures within { IfOk result (λ n. n ≤ length piece.now) }

@@ -26,8 +26,8 @@ pub struct MemStore {
 impl MemStore {
     ghost use Rattle.cov_base.specs.MemStore.{files_of, counts_of, plan_of};
 
-    /// A store of these files, which fails the calls of these numbers: reads and writes are counted together, from 0, and
-    /// from 2^32 - 1 on the number stays. Constant time.
+    /// A store of these files, which fails the calls of these numbers: reads and writes are counted
+    /// together, from 0, and from 2^32 - 1 on the number stays. Constant time.
     pub fn new(alloc: Global, files: BTreeMap<String, Text>, failing: List<u32>) -> MemStore
         ensures files { files_of result ≡ Some (λ name. get_by_text files name) }
         ensures counts { counts_of result ≡ record { missing = 0; reads = 0; writes = 0 } }
@@ -43,8 +43,8 @@ impl MemStore {
         }
     }
 
-    /// The bytes of the file that has this name, or `None` where no file has it. The cost is that of one
-    /// look-up in a map.
+    /// The bytes of the file that has this name, or `None` where no file has it. The cost is that
+    /// of one look-up in a map.
     pub fn file(&self, name: &str) -> Option<&[u8]>
         ensures { IfSome (files_of self.now)
             (λ told. option_map (λ bytes. bytes.now) result ≡ told name.now) }
@@ -64,7 +64,8 @@ impl Store for MemStore {
     ghost counts = { counts_of };
 
     fn read(&mut self, name: &str, max: usize, into: &mut List<u8>) -> Result<(), StoreFault>
-        // What each store promises, repeated since a method with clauses of its own shows these alone.
+        // What each store promises, repeated since a method with clauses of its own shows these
+        // alone.
         ensures ok { OnOk result (Reads (files_of self.old) name.now max into.old into.new) }
         ensures err { OnErr result (into.new ≡ into.old) }
         ensures missing { IsErrOf result StoreFault.Missing → Lacks (files_of self.old) name.now }
@@ -97,7 +98,8 @@ impl Store for MemStore {
     }
 
     fn write(&mut self, name: &str, bytes: &[u8]) -> Result<(), StoreFault>
-        // What each store promises, repeated since a method with clauses of its own shows these alone.
+        // What each store promises, repeated since a method with clauses of its own shows these
+        // alone.
         ensures ok { OnOk result
             (BothTold (files_of self.old) (files_of self.new) (Writes name.now bytes.now)) }
         ensures failed { IsErrOf result StoreFault.Failed →

@@ -17,8 +17,9 @@ pub trait Sink {
     /// How often it failed, up to 2^64 - 1.
     ghost faults: { Self → ℕ };
 
-    /// Takes one or more bytes from the front of a piece, and answers how many; of an empty piece it takes 0. Answers
-    /// `SinkFailed` where it cannot, and has then taken none. The cost is linear in the bytes that it takes.
+    /// Takes one or more bytes from the front of a piece, and answers how many; of an empty piece
+    /// it takes 0. Answers `SinkFailed` where it cannot, and has then taken none. The cost is
+    /// linear in the bytes that it takes.
     fn put(&mut self, piece: &[u8]) -> Result<usize, SinkFailed>
         ensures empty { piece.now ≡ [] → result ≡ Ok 0 }
         ensures some { IfOk result (λ n. 0 < length piece.now → 0 < n) }
@@ -33,8 +34,8 @@ pub trait Sink {
         ensures never_fall { faults self.old ≤ faults self.new };
 }
 
-/// Puts the whole piece, by at most as many puts as it has bytes. Answers `SinkFailed` where a put fails, and a front of
-/// the piece is then put, but not all. The cost is that of the puts.
+/// Puts the whole piece, by at most as many puts as it has bytes. Answers `SinkFailed` where a put
+/// fails, and a front of the piece is then put, but not all. The cost is that of the puts.
 #[tactic(auto, using(crate::proofs::Puts::more_put))]
 pub fn put_all<O: Sink>(out: &mut O, piece: &[u8]) -> Result<(), SinkFailed>
     ensures written { OnOk result (Appends (O.written out.old) piece.now (O.written out.new)) }

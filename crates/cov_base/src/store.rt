@@ -48,9 +48,10 @@ pub trait Store {
     /// How often a file was missing, a read failed and a write failed, each up to 2^64 - 1.
     ghost counts: { Self → Counts };
 
-    /// Adds the first `max + 1` bytes of a file to `into`, or all where it has no more: a caller that takes at most
-    /// `max` bytes then sees that there are too many. Answers `Missing` where there is no such file, `Failed` where it
-    /// cannot be read, and `Memory`, at any time, for want of it. The cost is linear in the bytes that are added.
+    /// Adds the first `max + 1` bytes of a file to `into`, or all where it has no more: a caller
+    /// that takes at most `max` bytes then sees that there are too many. Answers `Missing` where
+    /// there is no such file, `Failed` where it cannot be read, and `Memory`, at any time, for want
+    /// of it. The cost is linear in the bytes that are added.
     fn read(&mut self, name: &str, max: usize, into: &mut List<u8>) -> Result<(), StoreFault>
         ensures ok { OnOk result (Reads (files self.old) name.now max into.old into.new) }
         ensures err { OnErr result (into.new ≡ into.old) }
@@ -67,9 +68,9 @@ pub trait Store {
             counts self.new ≡ counts self.old }
         ensures never_fall { NeverFall (counts self.old) (counts self.new) };
 
-    /// Makes a file hold these bytes, in the place of those that it held. Answers `Failed` where it cannot be written,
-    /// and what this one file holds is then open; and `Memory`, at any time, for want of it. The cost is linear in the
-    /// bytes.
+    /// Makes a file hold these bytes, in the place of those that it held. Answers `Failed` where it
+    /// cannot be written, and what this one file holds is then open; and `Memory`, at any time, for
+    /// want of it. The cost is linear in the bytes.
     fn write(&mut self, name: &str, bytes: &[u8]) -> Result<(), StoreFault>
         ensures ok { OnOk result
             (BothTold (files self.old) (files self.new) (Writes name.now bytes.now)) }

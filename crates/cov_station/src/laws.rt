@@ -40,7 +40,8 @@ pub fn one_answer()
         × Appends old'.written out new'.written }
 {}
 
-/// What `run` prints is determined by the source and the tests. Does nothing: its clause is the law.
+/// What `run` prints is determined by the source and the tests. Does nothing: its clause is the
+/// law.
 pub fn one_run()
     ensures { HasOneRunText }
 {}

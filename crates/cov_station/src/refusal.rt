@@ -29,8 +29,8 @@ pub(crate) enum Quantity {
     Instants,
 }
 
-/// Why a command refuses. Bytes, and the records of a suite, count from 0; lines, and the steps of a
-/// proof, from 1.
+/// Why a command refuses. Bytes, and the records of a suite, count from 0; lines, and the steps of
+/// a proof, from 1.
 #[derive(Debug, Drop)]
 pub(crate) enum Refusal {
     Usage,

@@ -40,8 +40,8 @@ fn report_of(alloc: Global, table: &Table, json: bool) -> Result<List<u8>, Memor
 }
 
 /// The text of the score of a suite's tests over a plan of the network, as JSON or not. The cost is
-/// that of adding the tests to a table, and linear in the obligations and in the length of the text.
-/// Answers `Memory` for want of it.
+/// that of adding the tests to a table, and linear in the obligations and in the length of the
+/// text. Answers `Memory` for want of it.
 pub(crate) fn score_text(
     alloc: Global,
     net: Ordered,

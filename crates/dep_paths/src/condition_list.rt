@@ -101,9 +101,9 @@ fn add_conditions(net: &Network, edge: EdgeId, found: &mut List<Condition>) -> R
 }
 
 /// The conditions of a network, by edge and port: the ports of edges that don't stem from an
-/// assertion, whose operand is a Truth. An operand that is a constant doesn't count, nor one without
-/// a name of its own that makes a truth from truths: a `Not`, `And`, `Or`, `Xor` or `Imp`, or an `Eq`
-/// or `Ne` of truths.
+/// assertion, whose operand is a Truth. An operand that is a constant doesn't count, nor one
+/// without a name of its own that makes a truth from truths: a `Not`, `And`, `Or`, `Xor` or `Imp`,
+/// or an `Eq` or `Ne` of truths.
 ///
 /// `Memory` comes for want of it alone. Linear in the number of edges.
 pub fn conditions(alloc: Global, net: &Network) -> Result<List<Condition>, Memory>

@@ -6,8 +6,8 @@ ghost use Rattle.dep_paths.specs.Criteria.{FullImplies, LaterFramesChangeNothing
 ghost use Rattle.dep_paths.specs.Observed.{ReachIsPassedOn};
 ghost use Rattle.dep_paths.specs.Paths.{IsListOf, MoreThan};
 
-/// A network has at most one list of its complete paths of at most n edges. Does nothing: its clause
-/// is the law, as in the functions below.
+/// A network has at most one list of its complete paths of at most n edges. Does nothing: its
+/// clause is the law, as in the functions below.
 pub fn one_list()
     ensures { (net : Parts) (n : ℕ) (ps qs : Seq Path) → IsListOf net n ps → IsListOf net n qs →
         ps ≡ qs }

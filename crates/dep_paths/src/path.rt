@@ -32,8 +32,8 @@ pub struct Pin {
     pub value: bool,
 }
 
-/// A criterion. The first three are after Lakehal and Parissis, the last one after Whalen, Gay, You,
-/// Heimdahl and Staats.
+/// A criterion. The first three are after Lakehal and Parissis, the last one after Whalen, Gay,
+/// You, Heimdahl and Staats.
 #[derive(Clone, Copy, Debug, PartialEq, Eq)]
 pub enum Criterion {
     /// Basic coverage: each path is activated.

@@ -59,8 +59,8 @@ impl Plan {
         }
     }
 
-    /// The most edges that a path may have. Each plan is within its limits. In constant time, as the
-    /// calls below.
+    /// The most edges that a path may have. Each plan is within its limits. In constant time, as
+    /// the calls below.
     pub fn length(&self) -> u32
         ensures same { result ≡ self.now.length }
         ensures limits { IsWithinLimits self.now }
@@ -85,8 +85,8 @@ impl Plan {
     /// The obligations, criterion by criterion: for basic coverage each path; for elementary
     /// conditions each path with true and then with false of its first edge; for multiple
     /// conditions each path with true and then with false of each edge on it; for observable MC/DC
-    /// each condition with true and then with false. On a path only a Truth is asked for, and a path
-    /// with none to ask for has one plain obligation instead.
+    /// each condition with true and then with false. On a path only a Truth is asked for, and a
+    /// path with none to ask for has one plain obligation instead.
     pub fn duties(&self) -> &[Obligation]
         ensures { result.now ≡ self.now.duties }
     {

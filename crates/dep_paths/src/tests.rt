@@ -8,7 +8,8 @@ use std::alloc::Global;
 use std::process::Abort;
 use std::test::Fail;
 
-/// Adds an edge of a type, which is called by its place, and tells whether it has a name of its own.
+/// Adds an edge of a type, which is called by its place, and tells whether it has a name of its
+/// own.
 fn add_edge(
     alloc: Global,
     op: Op,

@@ -139,7 +139,8 @@ pub(crate) fn pinned(
 ) -> Result<Lit, BlastFault>
     requires m { m.var < maker.old.vars }
     requires bit { bit.var < maker.old.vars }
-    ensures made { IfOk result (Adds maker.old maker.new (λ n. spec.pin_circuit n pin place bit m)) }
+    ensures made { IfOk result
+        (Adds maker.old maker.new (λ n. spec.pin_circuit n pin place bit m)) }
     ensures full { IfFull result (Overfills maker.old (λ n. spec.pin_circuit n pin place bit m)) }
     ensures below { IfOk result (λ lit. lit.var < maker.new.vars) }
     ensures more { maker.old.vars ≤ maker.new.vars }

@@ -54,7 +54,8 @@ fn find_operands(
     requires before { IsSearch network.now.edges e found.old }
     ensures search { OnOk result (IsSearch network.now.edges e found.new) }
     ensures further { OnOk result (IsFurther found.old found.new) }
-    ensures found { OnOk result (HasOperands taken.now (operands_now network.now.edges b) found.new) }
+    ensures found { OnOk result
+        (HasOperands taken.now (operands_now network.now.edges b) found.new) }
 {
     for port in 0..count_now(network, b) {
         find(network, taken, e, operand_now(network, b, port), found)?;
@@ -62,8 +63,8 @@ fn find_operands(
     Ok(())
 }
 
-/// Whether an edge lies on a cycle, where some edges were taken, and others marked, that lie on none.
-/// In constant time where this one was, and else linear. `found` lends its memory.
+/// Whether an edge lies on a cycle, where some edges were taken, and others marked, that lie on
+/// none. In constant time where this one was, and else linear. `found` lends its memory.
 fn lies_on_cycle(
     network: &Network,
     taken: &Taken,

@@ -42,8 +42,8 @@ fn next_read(reads: &[Read], next: &mut List<Option<usize>>, e: EdgeId) -> Optio
     Some(reader)
 }
 
-/// Goes on to a reader of the last edge on the path, or back where all its reads are past. Where the
-/// path is empty a new one begins at the root.
+/// Goes on to a reader of the last edge on the path, or back where all its reads are past. Where
+/// the path is empty a new one begins at the root.
 fn go_on(reads: &[Read], walk: &mut Walk, root: EdgeId) -> Result<EdgeId, Memory> {
     match walk.path.as_slice().last().copied() {
         None => {
@@ -65,8 +65,8 @@ fn go_on(reads: &[Read], walk: &mut Walk, root: EdgeId) -> Result<EdgeId, Memory
 }
 
 /// The edges in the order in which a walk in depth from edge to reader finishes with them. From the
-/// end, each edge that lies on no cycle comes before its readers, and some edge of each cycle before
-/// all others to which it leads. Linear. No contract rests on the order.
+/// end, each edge that lies on no cycle comes before its readers, and some edge of each cycle
+/// before all others to which it leads. Linear. No contract rests on the order.
 pub(crate) fn finishing_order(
     alloc: Global,
     readers: &Readers,

@@ -6,8 +6,8 @@ pub fn one_run()
     ensures only { OneRun }
 {}
 
-/// Without a cycle each frame of a run over rows that fit has for each edge a value of its type. Does
-/// nothing: its clause is the law.
+/// Without a cycle each frame of a run over rows that fit has for each edge a value of its type.
+/// Does nothing: its clause is the law.
 pub fn frames_have_types()
     ensures { FramesHaveTypes }
 {}

@@ -53,9 +53,9 @@ fn see_edge(
     Ok(())
 }
 
-/// Marks of edges that lie on no cycle: of all that lie on none, which no contract says. By one walk
-/// from edges to their readers, and one back to the operands, from the edge that the first finished
-/// with last. Linear.
+/// Marks of edges that lie on no cycle: of all that lie on none, which no contract says. By one
+/// walk from edges to their readers, and one back to the operands, from the edge that the first
+/// finished with last. Linear.
 #[tactic(auto, using(crate::proofs::Seeing::none_seen, crate::proofs::Seeing::none_off))]
 pub(crate) fn off_cycles(alloc: Global, network: &Network) -> Result<List<bool>, Memory>
     ensures { IfOk result (AreOff network.now.edges) }

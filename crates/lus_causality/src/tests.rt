@@ -99,8 +99,8 @@ fn the_least_edge_that_can_be_next(rt: HostRuntime) -> Result<(), Fail> {
     Ok(())
 }
 
-/// `a = b; b = a`, an edge that reads itself, the branch of `if` that is never taken, two cycles, and
-/// edges that read a cycle and lie on none.
+/// `a = b; b = a`, an edge that reads itself, the branch of `if` that is never taken, two cycles,
+/// and edges that read a cycle and lie on none.
 #[test]
 fn the_least_edge_on_a_cycle(rt: HostRuntime) -> Result<(), Fail> {
     let pair: &[Op] = &[Op::Id(B), Op::Id(A)];

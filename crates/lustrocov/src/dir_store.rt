@@ -7,11 +7,11 @@ use std::fs;
 use std::io::{self, ErrorKind, Read, Write};
 use std::rt::Files;
 
-/// The files of the system, under their paths: one that does not begin with `/` begins at the current folder. It makes
-/// no folder.
+/// The files of the system, under their paths: one that does not begin with `/` begins at the
+/// current folder. It makes no folder.
 ///
-/// This is the trusted edge: it tells nothing of what the files hold. That a file of the system holds what was written
-/// to it, and that a read gives what it holds, is not proved.
+/// This is the trusted edge: it tells nothing of what the files hold. That a file of the system
+/// holds what was written to it, and that a read gives what it holds, is not proved.
 #[derive(Drop)]
 pub(crate) struct DirStore<R: Files + Drop> {
     rt: R,
@@ -70,8 +70,8 @@ impl<R: Files + Drop> DirStore<R> {
         }
     }
 
-    /// Makes a new file, or empties the one that is there, and writes the bytes. It answers `Memory` only where the file
-    /// is as before.
+    /// Makes a new file, or empties the one that is there, and writes the bytes. It answers
+    /// `Memory` only where the file is as before.
     fn write_file(&self, name: &str, bytes: &[u8]) -> Result<(), StoreFault> {
         match fs::create(&self.rt, name) {
             Ok(mut file) => match file.write_all(bytes) {
@@ -86,7 +86,8 @@ impl<R: Files + Drop> DirStore<R> {
     }
 }
 
-/// The first `max + 1` bytes that a reader gives, or all where it has no more. An interrupted read is tried again.
+/// The first `max + 1` bytes that a reader gives, or all where it has no more. An interrupted read
+/// is tried again.
 pub(crate) fn read_first<F: Read + Drop>(alloc: Global, file: F, max: usize) -> io::Result<List<u8>>
     ensures within { IfOk result (λ bytes. length bytes ≤ max + 1) }
     ensures first { IfOk result

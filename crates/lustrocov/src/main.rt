@@ -1,5 +1,5 @@
-//! The station as a program, over the files of the system and standard output. It ends with the number of the station's
-//! status.
+//! The station as a program, over the files of the system and standard output. It ends with the
+//! number of the station's status.
 #![tactic(auto)]
 
 mod call;

@@ -5,10 +5,11 @@ use crate::count::one_more;
 use cov_base::{Sink, SinkFailed};
 use std::io::{self, ErrorKind, Write};
 
-/// A writer that keeps nothing back, as standard output is: what it takes is out when the put ends, so nothing is
-/// flushed.
+/// A writer that keeps nothing back, as standard output is: what it takes is out when the put ends,
+/// so nothing is flushed.
 ///
-/// This is the trusted edge: it tells nothing of what it took. That the bytes get to a reader is not proved.
+/// This is the trusted edge: it tells nothing of what it took. That the bytes get to a reader is
+/// not proved.
 #[derive(Drop)]
 pub(crate) struct StdSink<W: Write + Drop> {
     out: W,
@@ -32,7 +33,8 @@ impl<W: Write + Drop> StdSink<W> {
     }
 }
 
-/// Writes some bytes from the front of a piece, and answers how many. An interrupted write is tried again.
+/// Writes some bytes from the front of a piece, and answers how many. An interrupted write is tried
+/// again.
 fn write_some<W: Write>(out: &mut W, piece: &[u8]) -> io::Result<usize>
     ensures within { IfOk result (λ n. n ≤ length piece.now) }
     ensures written { IfOk result

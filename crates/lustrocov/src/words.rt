@@ -7,8 +7,9 @@ use std::alloc::Global;
 use std::env::Args;
 use std::io::{self, ErrorKind};
 
-/// The words behind the program's own name. Where they are not text there are none: they are then no command, as no
-/// words are. Answers `Memory` for want of it. The cost is linear in the number of words.
+/// The words behind the program's own name. Where they are not text there are none: they are then
+/// no command, as no words are. Answers `Memory` for want of it. The cost is linear in the number
+/// of words.
 pub(crate) fn words_of(alloc: Global, args: io::Result<Args>) -> Result<List<String>, Memory>
     ensures words { IfOk args (λ args.
         IfOk result (λ words. words ≡ drop 1 (into_iter_items args))) }

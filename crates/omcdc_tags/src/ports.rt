@@ -131,8 +131,8 @@ fn add_condition(
     Ok(Some(place))
 }
 
-/// The places of the conditions of a plan. A port that is met for the first time is added. Linear in
-/// the number of conditions.
+/// The places of the conditions of a plan. A port that is met for the first time is added. Linear
+/// in the number of conditions.
 #[tactic(auto, using(crate::proofs::Placing::no_place_yet, crate::proofs::Placing::place_more))]
 pub(crate) fn add_conditions(
     alloc: Global,

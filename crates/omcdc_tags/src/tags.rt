@@ -131,7 +131,8 @@ impl Tags {
     }
 
     /// Whether a condition, by its place among the plan's conditions from 0, is observed with a
-    /// value at the last instant. Before the first frame the answer tells nothing. In constant time.
+    /// value at the last instant. Before the first frame the answer tells nothing. In constant
+    /// time.
     #[tactic(auto, using(crate::proofs::Telling::bit_within, crate::proofs::Telling::tells_some, crate::proofs::Telling::tells_none))]
     pub fn observed(&self, condition: u32, value: bool) -> bool
         requires { condition < length self.now.places }

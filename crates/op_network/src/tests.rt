@@ -177,7 +177,8 @@ fn instant_values(rt: &impl Abort, op: Op, ty: Ty, first: Value, later: Value) {
     assert_eq!(rt; at_later, later);
 }
 
-/// The value of each operator that the tables above leave out and that has the same one at instant 0 and later.
+/// The value of each operator that the tables above leave out and that has the same one at instant
+/// 0 and later.
 #[test]
 fn an_operator_reads_its_instant(rt: HostRuntime) {
     let yes = Value::Truth(true);

@@ -68,10 +68,11 @@ fn is_end(step: &ProofStep) -> bool
     }
 }
 
-/// Accepts a proof that no assignment satisfies a formula, or names the first step that is refused, or answers
-/// `Memory`, at any time, for want of it. Steps behind the first empty clause aren't looked at. There are fewer than
-/// 4,294,967,295 steps. The cost is linear in the formula's clauses, the greatest variable of the literals that are set
-/// false, the ids and literals of the proof, and the literals of the clauses that its hints name.
+/// Accepts a proof that no assignment satisfies a formula, or names the first step that is refused,
+/// or answers `Memory`, at any time, for want of it. Steps behind the first empty clause aren't
+/// looked at. There are fewer than 4,294,967,295 steps. The cost is linear in the formula's
+/// clauses, the greatest variable of the literals that are set false, the ids and literals of the
+/// proof, and the literals of the clauses that its hints name.
 pub fn verify(alloc: Global, formula: &Formula, proof: &Proof) -> Result<(), VerifyFault>
     requires { length proof.now < 0xFFFF_FFFF }
     ensures accepted { OnOk result (Accepted formula.now.clauses proof.now) }

@@ -49,7 +49,8 @@ fn sole(marks: &Marks, lits: &[Lit]) -> Result<Lit, StepKind>
     }
 }
 
-/// Takes the hints in order, where the marked literals are false. The cost is linear in the literals of their clauses.
+/// Takes the hints in order, where the marked literals are false. The cost is linear in the
+/// literals of their clauses.
 pub(crate) fn follow(
     table: &HashMap<u64, &Clause>,
     marks: &mut Marks,

@@ -8,7 +8,8 @@ pub fn read_again()
     ensures { IsReadAgain }
 {}
 
-/// A log of a solver that spent its budget adds no empty clause, and none that has all literals of a clause before it.
+/// A log of a solver that spent its budget adds no empty clause, and none that has all literals of
+/// a clause before it.
 #[tactic(auto, using(crate::proofs::NewClauses::spent_log_adds_new))]
 pub fn spent_log_adds_new()
     ensures { SpentLogAddsNew }

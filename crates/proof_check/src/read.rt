@@ -62,7 +62,8 @@ fn as_id(number: Number) -> Option<u32>
     }
 }
 
-/// The literals up to the first 0, and what stands behind it. The builder is empty before and behind.
+/// The literals up to the first 0, and what stands behind it. The builder is empty before and
+/// behind.
 fn read_lits<'t>(
     alloc: Global,
     text: &'t [u8],
@@ -220,8 +221,9 @@ fn read_step(
     read_behind(alloc, rest, line, id, builder)
 }
 
-/// The proof of a text of at most 268,435,456 bytes in LRAT, or the first fault of the text, or `Memory`, at any time,
-/// for want of it. A literal that a clause has already is dropped. The cost is linear in the bytes and the variables.
+/// The proof of a text of at most 268,435,456 bytes in LRAT, or the first fault of the text, or
+/// `Memory`, at any time, for want of it. A literal that a clause has already is dropped. The cost
+/// is linear in the bytes and the variables.
 pub fn read_lrat(alloc: Global, bytes: &[u8]) -> Result<Proof, LratFault>
     requires { length bytes.now ≤ most_bytes }
     ensures ok { IfOk result (λ steps. proof_of bytes.now ≡ Ok steps) }

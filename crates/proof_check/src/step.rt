@@ -9,9 +9,9 @@ pub type Proof = List<ProofStep>;
 /// One step of a proof.
 #[derive(Debug, Drop)]
 pub enum ProofStep {
-    /// Adds a clause under an id, which is greater than all before. The hints are ids of clauses that are present: where
-    /// all literals of the clause are false, each but the last has one literal that isn't false yet, which is so true,
-    /// and the last has none.
+    /// Adds a clause under an id, which is greater than all before. The hints are ids of clauses
+    /// that are present: where all literals of the clause are false, each but the last has one
+    /// literal that isn't false yet, which is so true, and the last has none.
     Put {
         id: u32,
         clause: Clause,
@@ -26,7 +26,8 @@ pub enum ProofStep {
 /// Why a step is refused. The first of these that holds is told, in the order of the hints.
 #[derive(Clone, Copy, Debug, PartialEq, Eq)]
 pub enum StepKind {
-    /// The id of an addition isn't greater than the ids of the formula's clauses and of all clauses added before.
+    /// The id of an addition isn't greater than the ids of the formula's clauses and of all clauses
+    /// added before.
     OldId,
     /// A hint or a deletion names an id under which no clause is present.
     UnknownId,
@@ -45,7 +46,8 @@ pub enum StepKind {
 /// Why a proof isn't accepted.
 #[derive(Clone, Copy, Debug, PartialEq, Eq)]
 pub enum VerifyFault {
-    /// The first step that is refused, from 1. Where the steps end without an empty clause it is the one behind the last.
+    /// The first step that is refused, from 1. Where the steps end without an empty clause it is
+    /// the one behind the last.
     Refused { step: u32, kind: StepKind },
     /// There was too little memory.
     Memory,

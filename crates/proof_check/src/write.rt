@@ -101,8 +101,8 @@ fn push_steps(out: &mut List<u8>, steps: &[ProofStep]) -> Result<(), Memory>
     Ok(())
 }
 
-/// Adds the text of a proof in LRAT at the end, one step per line. Answers `Memory` for want of it, and `out` is then
-/// as before. The cost is linear in the text, over many calls.
+/// Adds the text of a proof in LRAT at the end, one step per line. Answers `Memory` for want of it,
+/// and `out` is then as before. The cost is linear in the text, over many calls.
 pub fn write_lrat(proof: &Proof, out: &mut List<u8>) -> Result<(), Memory>
     ensures ok { OnOk result (out.new ≡ out.old ++ proof_text proof.now) }
     ensures err { OnErr result (out.new ≡ out.old) }

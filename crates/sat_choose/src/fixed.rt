@@ -5,7 +5,8 @@ use cnf_form::Lit;
 use cov_base::Memory;
 use std::marker::Model;
 
-/// The rule that never picks, and so leaves each decision to the solver. Contracts see it as its number of variables.
+/// The rule that never picks, and so leaves each decision to the solver. Contracts see it as its
+/// number of variables.
 #[derive(Debug, Drop)]
 pub struct Fixed {
     vars: u32,

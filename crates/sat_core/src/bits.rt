@@ -7,7 +7,8 @@ use crate::trail::Entry;
 use cov_base::{BitRow, Memory};
 use std::alloc::Global;
 
-/// A bit for each variable, true where its positive literal was set. The cost is linear in the variables.
+/// A bit for each variable, true where its positive literal was set. The cost is linear in the
+/// variables.
 pub(crate) fn bits_of(alloc: Global, vars: u32, trail: &[Entry]) -> Result<BitRow, Memory>
     requires within { (k : ℕ) → k < length trail.now → (lit_at trail.now k).var < vars }
     requires apart { Apart (lit_at trail.now) (length trail.now) }

@@ -6,7 +6,8 @@ use crate::trail::Trail;
 use cnf_form::Lit;
 use sat_choose::Chooser;
 
-/// The literal to be decided: what the chooser picks, where it is free, or else the one that is offered.
+/// The literal to be decided: what the chooser picks, where it is free, or else the one that is
+/// offered.
 pub(crate) fn decision(chooser: &mut dyn Chooser, trail: &Trail, offered: Lit) -> Lit
     requires size { size chooser.old ≡ vars_of trail.now }
     requires inside { offered.var < vars_of trail.now }

@@ -11,7 +11,8 @@ use cov_base::{List, Memory};
 use proof_check::ProofStep;
 use std::alloc::Global;
 
-/// A clause to be learnt, with its hints, the literal that it sets, and the place of the trail to go back to.
+/// A clause to be learnt, with its hints, the literal that it sets, and the place of the trail to
+/// go back to.
 #[derive(Debug, Drop)]
 pub(crate) struct Lesson {
     pub clause: Clause,
@@ -61,8 +62,8 @@ fn cut_place(trail: &[Entry], seen: &[bool], from: usize) -> usize
     cut
 }
 
-/// Resolves a conflict back to the one literal that was set at the last decision or after it. The cost is linear in the
-/// trail and in the literals of the clauses that become hints.
+/// Resolves a conflict back to the one literal that was set at the last decision or after it. The
+/// cost is linear in the trail and in the literals of the clauses that become hints.
 pub(crate) fn study(
     alloc: Global,
     formula: &[Clause],

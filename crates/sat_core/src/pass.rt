@@ -11,7 +11,8 @@ use cnf_form::Clause;
 use cov_base::Memory;
 use proof_check::ProofStep;
 
-/// What a pass found: no clause that sets a literal, one or more that did, or one whose literals are all false.
+/// What a pass found: no clause that sets a literal, one or more that did, or one whose literals
+/// are all false.
 #[derive(Clone, Copy, Debug, PartialEq, Eq)]
 pub(crate) enum PassOutcome {
     Rest,
@@ -19,7 +20,8 @@ pub(crate) enum PassOutcome {
     Conflict(usize),
 }
 
-/// Goes through all clauses once, and sets each literal that follows. The cost is linear in their literals.
+/// Goes through all clauses once, and sets each literal that follows. The cost is linear in their
+/// literals.
 pub(crate) fn pass(
     formula: &[Clause],
     log: &[ProofStep],

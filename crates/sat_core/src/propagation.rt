@@ -10,9 +10,9 @@ use cnf_form::Clause;
 use cov_base::Memory;
 use proof_check::ProofStep;
 
-/// Sets each literal that follows from a clause whose other literals are false, until none is left, or until all
-/// literals of a clause are false, whose place is answered. The cost is that of a pass over all clauses for each literal
-/// that is set, at worst.
+/// Sets each literal that follows from a clause whose other literals are false, until none is left,
+/// or until all literals of a clause are false, whose place is answered. The cost is that of a pass
+/// over all clauses for each literal that is set, at worst.
 pub(crate) fn propagate(
     formula: &[Clause],
     log: &[ProofStep],

@@ -16,8 +16,8 @@ use cov_base::{List, Memory};
 use proof_check::ProofStep;
 use std::alloc::Global;
 
-/// Puts the hints of the empty clause, last to first. The cost is linear in the trail and in the literals of the clauses
-/// that become hints.
+/// Puts the hints of the empty clause, last to first. The cost is linear in the trail and in the
+/// literals of the clauses that become hints.
 fn walk_down(
     formula: &[Clause],
     log: &[ProofStep],

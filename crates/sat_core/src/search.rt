@@ -13,7 +13,8 @@ use proof_check::ProofStep;
 use sat_choose::Chooser;
 use std::alloc::Global;
 
-/// How the search ends: all variables are set, a clause is false with nothing decided, or the budget is spent.
+/// How the search ends: all variables are set, a clause is false with nothing decided, or the
+/// budget is spent.
 #[derive(Clone, Copy, Debug, PartialEq, Eq)]
 pub(crate) enum Ending {
     Full,

@@ -12,12 +12,14 @@ use cov_base::{List, Memory};
 use sat_choose::{Chooser, Fixed};
 use std::alloc::Global;
 
-/// Searches for an assignment that satisfies a formula, and learns at most `budget` clauses, which is at most
-/// 1,000,000,000. Calls `begin` once, `pick` at each decision, and `learnt` at each clause that it learns; where nothing
-/// is picked, or a variable that is set already, the least variable that is free is set false. A conflict on propagated
-/// literals alone ends with `Refuted`; any other conflict ends with `Spent` where `budget` clauses were learnt already.
-/// Answers `Memory`, at any time, for want of it, also that of `begin`. Each literal that is set may take a pass over
-/// all clauses, and each decision a walk over the variables; there may be exponentially many of both.
+/// Searches for an assignment that satisfies a formula, and learns at most `budget` clauses, which
+/// is at most 1,000,000,000. Calls `begin` once, `pick` at each decision, and `learnt` at each
+/// clause that it learns; where nothing is picked, or a variable that is set already, the least
+/// variable that is free is set false. A conflict on propagated literals alone ends with `Refuted`;
+/// any other conflict ends with `Spent` where `budget` clauses were learnt already. Answers
+/// `Memory`, at any time, for want of it, also that of `begin`. Each literal that is set may take a
+/// pass over all clauses, and each decision a walk over the variables; there may be exponentially
+/// many of both.
 pub fn solve(
     alloc: Global,
     formula: &Formula,

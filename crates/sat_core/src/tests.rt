@@ -160,7 +160,8 @@ fn a_chooser_changes_no_such_verdict(rt: HostRuntime) -> Result<(), Fail> {
     Ok(())
 }
 
-/// The first 40 variables and one more are decided before the first conflict, from which a clause is learnt.
+/// The first 40 variables and one more are decided before the first conflict, from which a clause
+/// is learnt.
 #[test]
 fn a_chooser_is_called_at_each_turn(rt: HostRuntime) -> Result<(), Fail> {
     let formula = formula(&rt, rt.alloc(), FAR_SQUARE.as_bytes())?;

@@ -10,7 +10,8 @@ use cnf_form::Lit;
 use cov_base::{List, Memory};
 use std::alloc::Global;
 
-/// A literal that was set true, with the place of the clause that it follows from, or none where it was decided.
+/// A literal that was set true, with the place of the clause that it follows from, or none where it
+/// was decided.
 #[derive(Clone, Copy, Debug, PartialEq, Eq)]
 pub(crate) struct Entry {
     pub lit: Lit,

@@ -21,8 +21,8 @@ fn tell(chooser: &mut dyn Chooser, lits: &[Lit])
     chooser.learnt(lits);
 }
 
-/// Learns a clause from a conflict, takes back the decisions that were made after all its literals but one were false,
-/// and sets that one.
+/// Learns a clause from a conflict, takes back the decisions that were made after all its literals
+/// but one were false, and sets that one.
 pub(crate) fn turn(
     alloc: Global,
     formula: &[Clause],

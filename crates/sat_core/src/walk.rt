@@ -24,8 +24,8 @@ pub(crate) fn push_hint(hints: &mut Vec<i64>, clause: usize) -> Result<(), Memor
     }
 }
 
-/// Answers where the walk stops: at the one literal that is left from `from` on. The cost is linear in the trail from
-/// there on and in the literals of the clauses that become hints.
+/// Answers where the walk stops: at the one literal that is left from `from` on. The cost is linear
+/// in the trail from there on and in the literals of the clauses that become hints.
 pub(crate) fn walk(
     formula: &[Clause],
     log: &[ProofStep],

@@ -143,8 +143,8 @@ fn rises_stepped(rt: &impl Abort, alloc: Global) -> Result<List<bool>, Fail> {
     }
 }
 
-/// y = 0 1 0, by steps and with the edges fired in two orders. Where edge 1 is asked for too early it
-/// isn't ready, and the instant isn't finished.
+/// y = 0 1 0, by steps and with the edges fired in two orders. Where edge 1 is asked for too early
+/// it isn't ready, and the instant isn't finished.
 #[test]
 fn steps_and_firings_give_the_run(rt: HostRuntime) -> Result<(), Fail> {
     let ys: &[bool] = &[false, true, false];

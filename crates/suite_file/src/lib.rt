@@ -16,7 +16,7 @@ mod values;
 mod write;
 
 pub use fault::{SuiteFault, SuiteKind};
-pub use laws::{accepted, read_again, refused};
+pub use laws::{accepted, numbers_of_suites, read_again, refused};
 pub use limits::{MOST_INSTANTS, MOST_NAME, MOST_TESTS};
 pub use suite::read_suite;
 pub use write::write_suite;

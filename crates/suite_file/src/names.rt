@@ -62,8 +62,8 @@ impl NameTable {
     }
 }
 
-/// Adds a name to a set, unless the set has it. The cost is logarithmic in the number of names, also
-/// where a text's author chose them.
+/// Adds a name to a set, unless the set has it. The cost is logarithmic in the number of names,
+/// also where a text's author chose them.
 pub(crate) fn keep_name(
     alloc: Global,
     names: &mut BTreeSet<Vec<u8>>,

@@ -70,8 +70,8 @@ impl Progress {
         }
     }
 
-    /// Whether a test of this name ended. The test at hand is asked first: it is no test that ended,
-    /// and most records are its.
+    /// Whether a test of this name ended. The test at hand is asked first: it is no test that
+    /// ended, and most records are its.
     #[tactic(auto, using(crate::proofs::Ended::current_open, crate::proofs::Ended::kept_knows))]
     pub fn has_ended(&self, name: &[u8]) -> bool
         requires { IsKept self.now }

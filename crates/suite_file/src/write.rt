@@ -149,9 +149,9 @@ fn put_test(
     Ok(())
 }
 
-/// Adds the text of a suite: the header with the inputs in their order, and the records of the tests
-/// in theirs. For want of memory it answers `Memory` and adds nothing. The cost is linear in the
-/// text, in time and in memory.
+/// Adds the text of a suite: the header with the inputs in their order, and the records of the
+/// tests in theirs. For want of memory it answers `Memory` and adds nothing. The cost is linear in
+/// the text, in time and in memory.
 #[tactic(auto, using(crate::proofs::Writers::tests_more, crate::proofs::Writers::no_more_tests))]
 pub fn write_suite(
     alloc: Global,

@@ -93,10 +93,11 @@ fn ports(net: &Network) -> u64
     total
 }
 
-/// How many variables the formula of a goal over `k` instants takes at most: 1, and at each instant the costs of all
-/// edges, 4 for each port, 4 for each edge and 260. An edge costs its bits; an equality 3 for each bit of an operand
-/// and 1, an order 6 and 1, a sum, a difference and a negation 6 for each bit, and a product 8 times the square of its
-/// bits. `k` is 1 to 32. Takes no memory. The cost is linear in the number of edges.
+/// How many variables the formula of a goal over `k` instants takes at most: 1, and at each instant
+/// the costs of all edges, 4 for each port, 4 for each edge and 260. An edge costs its bits; an
+/// equality 3 for each bit of an operand and 1, an order 6 and 1, a sum, a difference and a
+/// negation 6 for each bit, and a product 8 times the square of its bits. `k` is 1 to 32. Takes no
+/// memory. The cost is linear in the number of edges.
 pub fn size(net: &Network, k: u32) -> u64
     requires some { 1 ≤ k }
     requires few { k ≤ 32 }

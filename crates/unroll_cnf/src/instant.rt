@@ -32,7 +32,8 @@ fn put(words: &mut List<Word>, e: EdgeId, word: Word)
     words.items_mut()[e.0 as usize] = word;
 }
 
-/// The words of an instant, made edge by edge in the order of the sequence, behind those of the instant before.
+/// The words of an instant, made edge by edge in the order of the sequence, behind those of the
+/// instant before.
 pub(crate) fn instant(
     alloc: Global,
     maker: &mut Maker,

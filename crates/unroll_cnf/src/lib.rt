@@ -1,8 +1,9 @@
 //! The formula whose models are the streams of a network over some instants.
 //!
-//! Each edge has a word at each instant: its bits, least first. The words are made instant by instant, and at each
-//! instant in the order of the network's sequence, so that the words of the operands are there. An input has free
-//! bits, an operator the gates of `bit_blast`, and `pre` the word of the instant before.
+//! Each edge has a word at each instant: its bits, least first. The words are made instant by
+//! instant, and at each instant in the order of the network's sequence, so that the words of the
+//! operands are there. An input has free bits, an operator the gates of `bit_blast`, and `pre` the
+//! word of the instant before.
 #![tactic(auto)]
 
 mod costs;

@@ -92,7 +92,8 @@ fn if_word(
     maker.ite_word(alloc, only(a), b, c)
 }
 
-/// The word of `a -> b`: at instant 0, before which there are no words, that of `a`, and later that of `b`.
+/// The word of `a -> b`: at instant 0, before which there are no words, that of `a`, and later that
+/// of `b`.
 fn arrow_word(alloc: Global, before: Option<&[Word]>, a: &Word, b: &Word) -> Result<Word, Memory>
     ensures { let past = option_map table_of (option_map (λ words. words.now) before.entry) in
         IfOk result (λ w. w ≡ spec.arrow_word past a.now b.now) }
@@ -103,7 +104,8 @@ fn arrow_word(alloc: Global, before: Option<&[Word]>, a: &Word, b: &Word) -> Res
     }
 }
 
-/// The word of `pre a`: at instant 0 that of the default, and later that of `a` at the instant before.
+/// The word of `pre a`: at instant 0 that of the default, and later that of `a` at the instant
+/// before.
 fn pre_word(
     alloc: Global,
     parts: &Parts,
@@ -122,7 +124,8 @@ fn pre_word(
     }
 }
 
-/// The word of an operator of a form and a type, behind the words of the instant before and those of the instant.
+/// The word of an operator of a form and a type, behind the words of the instant before and those
+/// of the instant.
 fn form_word(
     alloc: Global,
     maker: &mut Maker,

@@ -352,7 +352,8 @@ const SMALL: [(Op, Ty); 4] = [
     (Op::Pre(B), Ty::Truth),
 ];
 
-/// The choice has the variables 2 and 3 and excludes the number 3, x has 4, and `pre x` is `no`; then 6 and 7, and 8.
+/// The choice has the variables 2 and 3 and excludes the number 3, x has 4, and `pre x` is `no`;
+/// then 6 and 7, and 8.
 #[test]
 fn the_formula_has_its_gates_in_order(rt: HostRuntime) -> Result<(), Fail> {
     let net = network(&rt, rt.alloc(), 2, 3, &SMALL)?;

@@ -31,8 +31,8 @@ impl Model for Unrolled {
 }
 
 impl Unrolled {
-    /// The word of an edge at an instant, from 0. The edge is one of the network's, and the instant below `instants`.
-    /// Constant time.
+    /// The word of an edge at an instant, from 0. The edge is one of the network's, and the instant
+    /// below `instants`. Constant time.
     pub fn word(&self, e: EdgeId, t: u32) -> &Word
         requires edge { e.0 < self.now.edges }
         requires instant { t < self.now.instants }

@@ -83,13 +83,14 @@ fn unrolled(alloc: Global, parts: &Parts, order: &[EdgeId], k: u32) -> Result<Un
     }
 }
 
-/// The formula whose models are the streams of the network over `k` instants, and the words of its edges: variable 0,
-/// which is true, and then instant by instant the gates of all edges in the order of the network's sequence. It has at
-/// most 1 and `k` times the costs of all edges variables. Each word has the bits of its edge's type, and its literals
-/// are of the formula's variables; there is room for the clauses of all 2,000,000 variables and 256 more. `k` is 1 to
-/// 32. Assertions aren't asked here. Answers `TooLarge` with the size exactly where that is over 2,000,000, before
-/// anything is made, and `Memory` for want of it. The cost is linear in the variables and clauses that are made, and in
-/// `k` for each edge.
+/// The formula whose models are the streams of the network over `k` instants, and the words of its
+/// edges: variable 0, which is true, and then instant by instant the gates of all edges in the
+/// order of the network's sequence. It has at most 1 and `k` times the costs of all edges
+/// variables. Each word has the bits of its edge's type, and its literals are of the formula's
+/// variables; there is room for the clauses of all 2,000,000 variables and 256 more. `k` is 1 to
+/// 32. Assertions aren't asked here. Answers `TooLarge` with the size exactly where that is over
+/// 2,000,000, before anything is made, and `Memory` for want of it. The cost is linear in the
+/// variables and clauses that are made, and in `k` for each edge.
 pub fn unroll(alloc: Global, net: &Ordered, k: u32) -> Result<Unrolled, UnrollFault>
     requires some { 1 ≤ k }
     requires few { k ≤ 32 }

@@ -31,7 +31,8 @@ pub(crate) fn enumerators(parts: &Parts, choice: u32) -> usize
     }
 }
 
-/// The bits of a type: 1 of a truth, the width of a word, and of a choice as many as number its enumerators.
+/// The bits of a type: 1 of a truth, the width of a word, and of a choice as many as number its
+/// enumerators.
 pub(crate) fn bits_of(parts: &Parts, ty: Ty) -> u32
     requires { parts.now.width ≤ widest }
     ensures value { result ≡ spec.bits_of parts.now ty }

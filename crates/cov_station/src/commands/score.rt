@@ -16,8 +16,8 @@ use dep_paths::MOST_LENGTH;
 use op_network::{LEAST_WIDTH, MOST_WIDTH};
 use std::alloc::Global;
 
-/// What `score` prints: the tests, how many of the obligations they cover, over the paths of at most
-/// `most_edges` edges, and those that they don't; as text, or as one line of JSON.
+/// What `score` prints: the tests, how many of the obligations they cover, over the paths of at
+/// most `most_edges` edges, and those that they don't; as text, or as one line of JSON.
 pub(crate) fn score_command<S: Store>(
     alloc: Global,
     store: &mut S,

@@ -58,8 +58,8 @@ fn a_proof_and_spoiled_copies(rt: HostRuntime) -> Result<(), Fail> {
     verify(&rt, CNF, turned, Status::Refused, line)
 }
 
-/// The first line of a formula's text that is at fault, or its last line, before the proof is looked
-/// for.
+/// The first line of a formula's text that is at fault, or its last line, before the proof is
+/// looked for.
 fn cnf_is<R: Abort + AllocGlobal>(rt: &R, cnf: &[u8], line: &[u8]) -> Result<(), Fail> {
     verify_failing(rt, (Some(cnf), None), &[], Status::Unreadable, line)
 }

@@ -61,8 +61,8 @@ fn constants_and_inner_links_are_no_conditions(rt: HostRuntime) -> Result<(), Fa
     expect(&rt, rt.alloc(), &rows, &[(3, 0), (4, 0), (5, 0)])
 }
 
-/// `y = (x = b) or 1 < 1` with `b = x <> x`, and an assertion of `b and x`. The `=` of truths has no
-/// name and is a link, `<` is none; words are no conditions.
+/// `y = (x = b) or 1 < 1` with `b = x <> x`, and an assertion of `b and x`. The `=` of truths has
+/// no name and is a link, `<` is none; words are no conditions.
 #[test]
 fn asserted_edges_and_words_have_none(rt: HostRuntime) -> Result<(), Fail> {
     let rows = [

@@ -99,7 +99,8 @@ fn expect(
 }
 
 /// `y = false -> x and not pre x` at x = 0, 1, 1. The conditions are port 0 of the conjunction, of
-/// `not` and of `pre`. The first is never observed with false: there `not pre x` would be true.
+/// `not` and of `pre`. The first is never observed with false: x is false at instant 0 alone, where
+/// `->` hides the conjunction.
 #[test]
 fn a_tag_passes_where_the_other_operand_does_not_hide_it(rt: HostRuntime) -> Result<(), Fail> {
     let alloc = rt.alloc();

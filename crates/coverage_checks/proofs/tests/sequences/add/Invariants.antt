@@ -1,0 +1,4 @@
+use Rattle.coverage_checks.proofs.tests.sequences.add.Given as goal
+
+abbrev pub ghosts-add_counted : goal.ghosts-add_counted
+ghosts-add_counted g a = record { name = a.blank.name; parts = a.blank.parts }

@@ -1,0 +1,4 @@
+mod goals;
+mod programs;
+mod sequences;
+mod tables;
